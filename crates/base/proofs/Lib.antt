@@ -1,0 +1,5 @@
+pub mod Sums
+pub mod Numbers
+pub mod Search
+pub mod Recip
+pub mod Flat

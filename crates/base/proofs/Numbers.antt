@@ -1,0 +1,58 @@
+-- Laws of the ceiling, of whole and of cut-off jobs: they rise, and how large they get.
+use Prim.Native.Nat.{ℕ, zero, suc, _+_, _*_, _/_, _%_, _-_, _≤_, _<_, min}
+use mathlib.Core.Path.{_≡_, refl, sym, ap, _∙_}
+use mathlib.Core.Logic.{_⊎_, inl, inr, ⊎-elim}
+use native.Mathlib.Omega.{arith}
+use Rattle.base.specs.Numbers.{ceil, jobsIn, cutIn}
+use native.Mathlib.Nat.{eq-or-lt-of-le, div-zero, le-div-iff-mul-le, div-mul-le-self, le-trans, mul-le-mul-right, mul-le-mul, div-add-mod', suc-mul, div-le-self, add-assoc, add-div-left, div-eq-of-lt}
+
+pub div-le : (p a b : ℕ) → a ≤ b → a / p ≤ b / p
+div-le zero a b h = omega (arith, div-zero a, div-zero b)
+div-le (suc p) a b h = le-div-iff-mul-le {k = suc p} (omega arith) .1 (le-trans (div-mul-le-self a (suc p)) h)
+
+pub jobs-rise : (p c s t : ℕ) → s ≤ t → jobsIn p c s ≤ jobsIn p c t
+unfolding jobsIn ceil
+jobs-rise p c s t h = mul-le-mul-right c (div-le p (s + (p - 1)) (t + (p - 1)) (omega arith))
+
+pub jobs-small : (p c t : ℕ) → t < 262144 → p < 65536 → c < 65536 → jobsIn p c t < 34359738368
+unfolding jobsIn ceil
+jobs-small p c t ht hp hc = omega (arith, mul-le-mul {m₁ = c} {n₂ = 327678} {m₂ = 65535} q (omega arith))
+  where
+    q : (t + (p - 1)) / p ≤ 327678
+    q = omega (arith, div-le-self (t + (p - 1)) p)
+
+pub cut-rises : (p c a b : ℕ) → a ≤ b → cutIn p c a ≤ cutIn p c b
+unfolding cutIn
+cut-rises p c a b h = ⊎-elim same less (eq-or-lt-of-le (div-le p a b h))
+  where
+    same : a / p ≡ b / p → a / p * c + min c (a % p) ≤ b / p * c + min c (b % p)
+    same e =
+        let ec : a / p * c ≡ b / p * c = ap (λ (q : ℕ). q * c) e in
+        let ep : a / p * p ≡ b / p * p = ap (λ (q : ℕ). q * p) e in
+        omega (arith, div-add-mod' a p, div-add-mod' b p)
+
+    less : a / p < b / p → a / p * c + min c (a % p) ≤ b / p * c + min c (b % p)
+    less l = omega (arith, mul-le-mul-right c l, suc-mul (a / p) c)
+
+pub cut-small : (p c m : ℕ) → m < 262144 → c < 65536 → cutIn p c m < 34359738368
+unfolding cutIn
+cut-small p c m hm hc = omega (arith, mul-le-mul {m₁ = c} {n₂ = 262143} {m₂ = 65535} q (omega arith))
+  where
+    q : m / p ≤ 262143
+    q = omega (arith, div-le-self m p)
+
+-- ---- the ceiling
+
+pub ceil-zero : (T : ℕ) → 0 < T → ceil 0 T ≡ 0
+unfolding ceil
+ceil-zero T h = div-eq-of-lt (omega arith)
+
+pub ceil-add : (m T : ℕ) → 0 < T → ceil (T + m) T ≡ ceil m T + 1
+unfolding ceil
+ceil-add m T h = rw add-assoc (add-div-left (m + (T - 1)) h)
+
+pub ceil-one : (m T : ℕ) → 0 < m → m ≤ T → ceil m T ≡ 1
+unfolding ceil
+ceil-one m T h l =
+    let e : m + (T - 1) ≡ T + (m - 1) = omega arith in
+    rw (e, add-div-left (m - 1) {k = T} (omega arith)) (omega (arith, div-eq-of-lt {n = m - 1} {m = T} (omega arith)))

@@ -1,0 +1,6 @@
+pub mod Format
+pub mod Record
+pub mod Answers
+pub mod Checks
+pub mod Block
+pub mod Legal

@@ -1,0 +1,67 @@
+-- A record of a block, and the same task as seven numbers of a list. Definitions only.
+use Prim.Native.Nat.{ℕ, _+_, _*_, _/_, _%_}
+use mathlib.Core.Bool.{Bool, true, _&&_}
+use mathlib.Core.List.{List, [], _∷_, _++_}
+use lib.ListN.{getD}
+use lib.Dec.{eqb, ltb}
+use Rattle.block.specs.declared.Task.{Task}
+
+-- numbers are little-endian: a byte, two bytes, four bytes at a place
+abbrev pub byteAt : List ℕ → ℕ → ℕ
+byteAt b a = getD b a 0
+
+abbrev pub halfAt : List ℕ → ℕ → ℕ
+halfAt b a = byteAt b a + 256 * byteAt b (a + 1)
+
+abbrev pub wordAt : List ℕ → ℕ → ℕ
+wordAt b a = halfAt b a + 65536 * halfAt b (a + 2)
+
+abbrev pub halfBytes : ℕ → List ℕ
+halfBytes n = n % 256 ∷ n / 256 % 256 ∷ []
+
+abbrev pub wordBytes : ℕ → List ℕ
+wordBytes n = halfBytes n ++ halfBytes (n / 65536)
+
+-- every byte is zero
+unfoldable pub allZero : List ℕ → Bool
+allZero [] = true
+allZero (b ∷ bs) = eqb b 0 && allZero bs
+
+-- the task that the sixteen bytes of a record say: kind, priority, number, T, D, C, Y
+unfoldable pub taskOf : List ℕ → Task
+taskOf r = record {
+  kind = byteAt r 0;
+  priority = byteAt r 1;
+  number = halfAt r 2;
+  period = halfAt r 4;
+  deadline = halfAt r 6;
+  execution = halfAt r 8;
+  offset = halfAt r 10;
+}
+
+-- the sixteen bytes of a task
+unfoldable pub recordOf : Task → List ℕ
+recordOf x =
+    x .kind % 256 ∷ x .priority % 256
+    ∷ (halfBytes (x .number) ++ halfBytes (x .period) ++ halfBytes (x .deadline) ++ halfBytes (x .execution) ++ halfBytes (x .offset) ++ (0 ∷ 0 ∷ 0 ∷ 0 ∷ []))
+
+-- the task that seven numbers say, and the seven numbers of a task
+unfoldable pub taskFrom : List ℕ → Task
+taskFrom l = record {
+  kind = getD l 0 0;
+  priority = getD l 1 0;
+  number = getD l 2 0;
+  period = getD l 3 0;
+  deadline = getD l 4 0;
+  execution = getD l 5 0;
+  offset = getD l 6 0;
+}
+
+unfoldable pub numbersOf : Task → List ℕ
+numbersOf x = x .kind ∷ x .priority ∷ x .number ∷ x .period ∷ x .deadline ∷ x .execution ∷ x .offset ∷ []
+
+-- each number fits its field
+unfoldable pub fits : Task → Bool
+fits x =
+    ltb (x .kind) 256 && ltb (x .priority) 256 && ltb (x .number) 65536 && ltb (x .period) 65536
+    && ltb (x .deadline) 65536 && ltb (x .execution) 65536 && ltb (x .offset) 65536

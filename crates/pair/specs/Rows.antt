@@ -1,0 +1,76 @@
+-- The worst window over all phases, and the row of each task, or its lateness. Definitions only.
+use Prim.Native.Nat.{ℕ, zero, suc, _+_, _-_, max}
+use mathlib.Core.Bool.{cond}
+use mathlib.Core.List.{List}
+use mathlib.Core.Option.{Option, none, some}
+use lib.Dec.{ltb}
+use Rattle.base.specs.Search.{windowOf}
+use Rattle.block.specs.declared.Task.{Task}
+use Rattle.window.specs.Order.{Kind, completed, aborted, new, kindOf}
+use Rattle.window.specs.Demand.{steadyDemand, phaseDemand, requestDemand}
+use Rattle.pair.specs.declared.Worst.{Worst}
+use Rattle.pair.specs.declared.Swept.{Swept}
+use Rattle.pair.specs.declared.Swept.the-variants.{Over, LateAt}
+use Rattle.pair.specs.declared.Row.{Row}
+use Rattle.pair.specs.declared.Judged.{Judged}
+use Rattle.pair.specs.declared.Judged.the-variants.{Timely, Late}
+
+-- ---- all phases from 1 to D
+
+-- a window met at a phase: kept where it is larger than all before it
+unfoldable pub takeOf : Worst → ℕ → ℕ → Worst
+takeOf s t x = cond (ltb (s .window) t) (record { window = t; phase = x }) s
+
+-- one phase more; the first phase without a window ends it
+unfoldable pub nextOf : Swept → Option ℕ → ℕ → Swept
+nextOf (Over s) (some t) x = Over (takeOf s t x)
+nextOf (Over s) none x = LateAt x
+nextOf (LateAt y) w x = LateAt y
+
+-- the windows g 1, .. , g n
+unfoldable pub sweep : (ℕ → Option ℕ) → ℕ → Swept
+sweep g zero = Over (record { window = 0; phase = 0 })
+sweep g (suc n) = nextOf (sweep g n) (g (suc n)) (suc n)
+
+-- ---- rows
+
+abbrev pub row : ℕ → ℕ → ℕ → Row
+row a b c = record { first = a; second = b; third = c }
+
+-- the window in time, which a completed task that is not late has
+abbrev pub orZero : Option ℕ → ℕ
+orZero (some t) = t
+orZero none = 0
+
+abbrev pub steadyWindow : List Task → Task → Option ℕ
+steadyWindow own i = windowOf (steadyDemand own i) (i .deadline)
+
+abbrev pub phaseWindow : List Task → List Task → Task → ℕ → Option ℕ
+phaseWindow olds news i x = windowOf (phaseDemand olds news i x) (i .deadline)
+
+abbrev pub requestWindow : List Task → List Task → Task → Option ℕ
+requestWindow olds news i = windowOf (requestDemand olds news i) (i .offset + i .deadline)
+
+-- completed: worst, its smallest phase, steady; late with the smallest late phase
+abbrev pub completedRow : Swept → Option ℕ → Judged
+completedRow (Over s) steady = Timely (row (s .window) (s .phase) (orZero steady))
+completedRow (LateAt x) steady = Late x
+
+-- aborted: steady, 0, steady
+abbrev pub abortedRow : Option ℕ → Judged
+abortedRow (some s) = Timely (row s 0 s)
+abortedRow none = Late 0
+
+-- new: the larger of steady and w - Y, w, steady; late in the steady window 0, from the request 1
+abbrev pub newRow : Task → Option ℕ → Option ℕ → Judged
+newRow i none w = Late 0
+newRow i (some s) none = Late 1
+newRow i (some s) (some w) = Timely (row (max s (w - i .offset)) w s)
+
+abbrev pub rowBy : Kind → List Task → List Task → Task → Judged
+rowBy completed olds news i = completedRow (sweep (phaseWindow olds news i) (i .deadline)) (steadyWindow olds i)
+rowBy aborted olds news i = abortedRow (steadyWindow olds i)
+rowBy new olds news i = newRow i (steadyWindow news i) (requestWindow olds news i)
+
+unfoldable pub rowOf : List Task → List Task → Task → Judged
+rowOf olds news i = rowBy (kindOf i) olds news i
