@@ -1,38 +1,17 @@
--- The worst window over all phases, and the row of each task, or its lateness. Definitions only.
-use Prim.Native.Nat.{ℕ, zero, suc, _+_, _-_, max}
-use mathlib.Core.Bool.{cond}
+-- The row of a task, or its lateness. Definitions only.
+use Prim.Native.Nat.{ℕ, _+_, _-_, max}
 use mathlib.Core.List.{List}
 use mathlib.Core.Option.{Option, none, some}
-use lib.Dec.{ltb}
 use Rattle.base.specs.Search.{windowOf}
 use Rattle.block.specs.declared.Task.{Task}
+use Rattle.window.specs.declared.Swept.{Swept}
+use Rattle.window.specs.declared.Swept.the-variants.{Over, LateAt}
 use Rattle.window.specs.Order.{Kind, completed, aborted, new, kindOf}
 use Rattle.window.specs.Demand.{steadyDemand, phaseDemand, requestDemand}
-use Rattle.pair.specs.declared.Worst.{Worst}
-use Rattle.pair.specs.declared.Swept.{Swept}
-use Rattle.pair.specs.declared.Swept.the-variants.{Over, LateAt}
-use Rattle.pair.specs.declared.Row.{Row}
-use Rattle.pair.specs.declared.Judged.{Judged}
-use Rattle.pair.specs.declared.Judged.the-variants.{Timely, Late}
-
--- ---- all phases from 1 to D
-
--- a window met at a phase: kept where it is larger than all before it
-unfoldable pub takeOf : Worst → ℕ → ℕ → Worst
-takeOf s t x = cond (ltb (s .window) t) (record { window = t; phase = x }) s
-
--- one phase more; the first phase without a window ends it
-unfoldable pub nextOf : Swept → Option ℕ → ℕ → Swept
-nextOf (Over s) (some t) x = Over (takeOf s t x)
-nextOf (Over s) none x = LateAt x
-nextOf (LateAt y) w x = LateAt y
-
--- the windows g 1, .. , g n
-unfoldable pub sweep : (ℕ → Option ℕ) → ℕ → Swept
-sweep g zero = Over (record { window = 0; phase = 0 })
-sweep g (suc n) = nextOf (sweep g n) (g (suc n)) (suc n)
-
--- ---- rows
+use Rattle.window.specs.Worst.{sweep}
+use Rattle.rows.specs.declared.Row.{Row}
+use Rattle.rows.specs.declared.Judged.{Judged}
+use Rattle.rows.specs.declared.Judged.the-variants.{Timely, Late}
 
 abbrev pub row : ℕ → ℕ → ℕ → Row
 row a b c = record { first = a; second = b; third = c }
