@@ -3,3 +3,4 @@ pub mod Numbers
 pub mod Search
 pub mod Recip
 pub mod Flat
+pub mod Lists

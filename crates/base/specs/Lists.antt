@@ -1,5 +1,6 @@
--- Lists: a part, the values at the first places, and one list laid over another. Definitions only.
+-- Lists: a part, the values at the first places, tests on all or on some, and one list laid over another. Definitions only.
 use Prim.Native.Nat.{ℕ, zero, suc, _-_}
+use mathlib.Core.Bool.{Bool, true, false, _&&_, _||_}
 use mathlib.Core.List.{List, [], _∷_, _++_}
 use lib.ListN.{length, take, drop}
 
@@ -12,6 +13,15 @@ module _ {A : Type 0} where
   unfoldable pub upTo : (ℕ → A) → ℕ → List A
   upTo f zero = []
   upTo f (suc n) = upTo f n ++ (f n ∷ [])
+
+  -- the test holds of every element; of some element
+  unfoldable pub every : (A → Bool) → List A → Bool
+  every p [] = true
+  every p (x ∷ xs) = p x && every p xs
+
+  unfoldable pub any : (A → Bool) → List A → Bool
+  any p [] = false
+  any p (x ∷ xs) = p x || any p xs
 
   -- s laid over the front of l: as much of s as there is room for, and what stood behind it in l
   unfoldable pub over : List A → List A → List A

@@ -4,7 +4,7 @@ use mathlib.Core.Path.{_≡_}
 use mathlib.Core.Bool.{Bool, true, false, cond, not, _&&_, _||_}
 use mathlib.Core.List.{List, [], _∷_, _++_, flatMap}
 use lib.ListN.{length, getD, drop, replicate}
-use lib.Dec.{eqb, ltb}
+use lib.Dec.{eqb, leb, ltb}
 use Rattle.base.specs.Lists.{part, upTo}
 use Rattle.block.specs.declared.Task.{Task}
 use Rattle.block.specs.declared.Table.{Table}
@@ -50,20 +50,37 @@ checkOf b = wordSum b checkWords % 4294967296
 
 -- ---- reading: codes 1 to 7 in order
 
-abbrev pub headChecks : ℕ → List ℕ → List Verdict
+abbrev pub marked : List ℕ → Bool
+marked b = eqb (byteAt b 0) markFirst && eqb (byteAt b 1) markSecond
+
+-- the side wanted is 0 or 1 and the block's own, the count is at most 30, bytes 6-7 are zero
+unfoldable pub headed : ℕ → List ℕ → Bool
+headed side b = leb side 1 && eqb (sideByte b) side && leb (countByte b) mostTasks && allZero (part b 6 8)
+
+unfoldable pub headChecks : ℕ → List ℕ → List Verdict
 headChecks side b =
     refuse (not (eqb (length b) blockSize)) (refusal 1 side 0)
     ∷ refuse (not (eqb (wordAt b checkPlace) (checkOf b))) (refusal 2 side 0)
-    ∷ refuse (not (eqb (byteAt b 0) markFirst && eqb (byteAt b 1) markSecond)) (refusal 3 side 0)
-    ∷ refuse (ltb 1 side || not (eqb (sideByte b) side) || ltb mostTasks (countByte b) || not (allZero (part b 6 8))) (refusal 4 side 0)
+    ∷ refuse (not (marked b)) (refusal 3 side 0)
+    ∷ refuse (not (headed side b)) (refusal 4 side 0)
     ∷ []
 
+-- 5 for each of n records, 6 for each task of a list
+abbrev pub eachRecord : ℕ → List ℕ → ℕ → List Verdict
+eachRecord side b n = upTo (λ k. firstOf (recordChecks side k (recordPart b k))) n
+
+abbrev pub eachDouble : ℕ → List Task → List Verdict
+eachDouble side xs = upTo (doubleCheck side xs) (length xs)
+
+abbrev pub roomCheck : ℕ → List ℕ → ℕ → Verdict
+roomCheck side b n = refuse (not (allZero (unusedRoom b n))) (refusal 7 side 0)
+
+-- 5, 6, 7 over n records
+abbrev pub bodyChecks : ℕ → List ℕ → ℕ → List Verdict
+bodyChecks side b n = eachRecord side b n ++ eachDouble side (tasksIn b n) ++ (roomCheck side b n ∷ [])
+
 abbrev pub blockChecks : ℕ → List ℕ → List Verdict
-blockChecks side b =
-    headChecks side b
-    ++ upTo (λ k. firstOf (recordChecks side k (recordPart b k))) (countByte b)
-    ++ upTo (doubleCheck side (tasksIn b (countByte b))) (countByte b)
-    ++ (refuse (not (allZero (unusedRoom b (countByte b)))) (refusal 7 side 0) ∷ [])
+blockChecks side b = headChecks side b ++ bodyChecks side b (countByte b)
 
 unfoldable pub blockVerdict : ℕ → List ℕ → Verdict
 blockVerdict side b = firstOf (blockChecks side b)
@@ -122,13 +139,18 @@ tasksFrom l n = upTo (λ k. taskFrom (numbersPart l k)) n
 abbrev pub tasksOf : List ℕ → List Task
 tasksOf l = tasksFrom l (length l / listSize)
 
-abbrev pub listChecks : ℕ → List ℕ → ℕ → List Verdict
-listChecks side l room =
+abbrev pub eachSeven : ℕ → List ℕ → ℕ → List Verdict
+eachSeven side l n = upTo (λ k. firstOf (numberChecks side k (numbersPart l k))) n
+
+unfoldable pub listHead : ℕ → List ℕ → ℕ → List Verdict
+listHead side l room =
     refuse (not (eqb room blockSize)) (refusal 1 side 0)
     ∷ refuse (not (eqb (length l % listSize) 0)) (refusal 11 2 0)
-    ∷ refuse (ltb 1 side || ltb mostTasks (length l / listSize)) (refusal 4 side 0)
-    ∷ (upTo (λ k. firstOf (numberChecks side k (numbersPart l k))) (length l / listSize)
-    ++ upTo (doubleCheck side (tasksOf l)) (length l / listSize))
+    ∷ refuse (not (leb side 1 && leb (length l / listSize) mostTasks)) (refusal 4 side 0)
+    ∷ []
+
+abbrev pub listChecks : ℕ → List ℕ → ℕ → List Verdict
+listChecks side l room = listHead side l room ++ eachSeven side l (length l / listSize) ++ eachDouble side (tasksOf l)
 
 unfoldable pub listVerdict : ℕ → List ℕ → ℕ → Verdict
 listVerdict side l room = firstOf (listChecks side l room)

@@ -4,18 +4,18 @@ use mathlib.Core.Bool.{Bool, true, false, cond, not, _&&_, _||_}
 use mathlib.Core.List.{List, [], _∷_, _++_}
 use lib.ListN.{getD, take}
 use lib.Dec.{eqb, ltb}
-use Rattle.base.specs.Lists.{part}
+use Rattle.base.specs.Lists.{part, any}
 use Rattle.block.specs.declared.Task.{Task}
 use Rattle.block.specs.declared.Verdict.{Verdict}
 use Rattle.block.specs.Record.{taskOf, taskFrom, fits, allZero}
 use Rattle.block.specs.Answers.{refusal, refuse}
 
 -- an old block (side 0) has kinds 0 and 1, a new one kind 2
-abbrev pub kindOn : ℕ → ℕ → Bool
+unfoldable pub kindOn : ℕ → ℕ → Bool
 kindOn side kind = cond (eqb side 0) (ltb kind 2) (eqb kind 2)
 
 -- the rules of a task of its own, each with its code
-abbrev pub taskChecks : ℕ → ℕ → Task → List Verdict
+unfoldable pub taskChecks : ℕ → ℕ → Task → List Verdict
 taskChecks side k x =
     refuse (not (kindOn side (x .kind))) (refusal 5 side k)
     ∷ refuse (eqb (x .period) 0) (refusal 5 side k)
@@ -30,7 +30,7 @@ recordChecks side k r = taskChecks side k (taskOf r) ++ (refuse (not (allZero (p
 
 -- those of seven numbers of a list: each fits its field
 abbrev pub numberChecks : ℕ → ℕ → List ℕ → List Verdict
-numberChecks side k l = refuse (not (fits (taskFrom l))) (refusal 5 side k) ∷ taskChecks side k (taskFrom l)
+numberChecks side k l = refuse (not (fits l)) (refusal 5 side k) ∷ taskChecks side k (taskFrom l)
 
 -- the task that no record says, for a place past the end of a list
 abbrev pub noTask : Task
@@ -40,10 +40,9 @@ noTask = record { kind = 0; priority = 0; number = 0; period = 0; deadline = 0; 
 unfoldable pub alike : Task → Task → Bool
 alike x y = eqb (x .number) (y .number) || eqb (x .priority) (y .priority)
 
--- some task of the list does with x
-unfoldable pub borneIn : Task → List Task → Bool
-borneIn x [] = false
-borneIn x (y ∷ ys) = alike y x || borneIn x ys
+-- some task of the list is alike to x
+abbrev pub borneIn : Task → List Task → Bool
+borneIn x xs = any (λ y. alike y x) xs
 
 -- a number or priority already borne by an earlier record
 abbrev pub doubleCheck : ℕ → List Task → ℕ → Verdict

@@ -1,9 +1,10 @@
 -- A record of a block, and the same task as seven numbers of a list. Definitions only.
 use Prim.Native.Nat.{ℕ, _+_, _*_, _/_, _%_}
-use mathlib.Core.Bool.{Bool, true, _&&_}
+use mathlib.Core.Bool.{Bool, _&&_}
 use mathlib.Core.List.{List, [], _∷_, _++_}
 use lib.ListN.{getD}
 use lib.Dec.{eqb, ltb}
+use Rattle.base.specs.Lists.{part, every}
 use Rattle.block.specs.declared.Task.{Task}
 
 -- numbers are little-endian: a byte, two bytes, four bytes at a place
@@ -23,9 +24,8 @@ abbrev pub wordBytes : ℕ → List ℕ
 wordBytes n = halfBytes n ++ halfBytes (n / 65536)
 
 -- every byte is zero
-unfoldable pub allZero : List ℕ → Bool
-allZero [] = true
-allZero (b ∷ bs) = eqb b 0 && allZero bs
+abbrev pub allZero : List ℕ → Bool
+allZero bytes = every (λ b. eqb b 0) bytes
 
 -- the task that the sixteen bytes of a record say: kind, priority, number, T, D, C, Y
 unfoldable pub taskOf : List ℕ → Task
@@ -60,8 +60,9 @@ taskFrom l = record {
 unfoldable pub numbersOf : Task → List ℕ
 numbersOf x = x .kind ∷ x .priority ∷ x .number ∷ x .period ∷ x .deadline ∷ x .execution ∷ x .offset ∷ []
 
--- each number fits its field
-unfoldable pub fits : Task → Bool
-fits x =
-    ltb (x .kind) 256 && ltb (x .priority) 256 && ltb (x .number) 65536 && ltb (x .period) 65536
-    && ltb (x .deadline) 65536 && ltb (x .execution) 65536 && ltb (x .offset) 65536
+-- each number fits its field: kind and priority a byte, the others two
+abbrev pub allBelow : ℕ → List ℕ → Bool
+allBelow bound l = every (λ n. ltb n bound) l
+
+abbrev pub fits : List ℕ → Bool
+fits l = allBelow 256 (part l 0 2) && allBelow 65536 (part l 2 7)

@@ -1,0 +1,6 @@
+pub mod Zeros
+pub mod Verdicts
+pub mod Doubles
+pub mod Heads
+pub mod Tables
+pub mod Reading

@@ -1,0 +1,21 @@
+use Rattle.block.specs.Checks.{kindOn}
+use borrow.Author.Tests.{eq-eqb, ne-eqb}
+use borrow.Author.Needs.{needs}
+use native.Mathlib.Omega.{arith}
+use Rattle.block.proofs.kind_on.Statement.{statement}
+use Rattle.block.proofs.kind_on.Tie as tie
+use Rattle.block.proofs.kind_on.Reads as reads
+use Rattle.block.proofs.kind_on.Lts as lts
+
+returns : tie.Need-returns
+unfolding kindOn
+returns c =
+    rw (eq-eqb _ _ (c .if1 .taken))
+
+returns-2 : tie.Need-returns-2
+unfolding kindOn
+returns-2 c =
+    rw (ne-eqb _ _ (c .if1 .left))
+
+pub kind-on-spec : {M : Type 1} → statement M
+kind-on-spec = tie.close (tie.spec returns returns-2)
