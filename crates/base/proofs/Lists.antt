@@ -8,7 +8,7 @@ use native.Mathlib.Nat.{eq-or-lt-of-le, mul-zero, mul-suc}
 use native.Mathlib.Numerals.{add-one}
 use native.Mathlib.Omega.{arith}
 use lib.ListN.{length, getD, take, drop, set, length-append, List·getD-append, drop-of-length-le}
-use lib.Seq.{take-append-le, drop-append-add, take-all, take-length, take-suc, drop-cons, set-at, length-take-le, getD-at, take-at}
+use lib.Seq.{take-append-le, drop-append-add, take-all, take-length, take-suc, drop-cons, set-at, length-take-le, getD-at, take-at, drop-at}
 use Rattle.base.proofs.Search.{le-or-lt}
 use Rattle.base.specs.Lists.{upTo, every, any, over}
 
@@ -138,6 +138,13 @@ module _ {A : Type 0} where
 
   pub over-same : (s d : List A) → length s ≡ length d → over s d ≡ s
   over-same s d h = over-front s d (omega arith) ∙ rw (drop-of-length-le d {i = length s} (omega arith)) (append-nil s)
+
+  -- a piece of w elements put at the end of the front
+  pub put-part : (front tail piece : List A) (at w : ℕ) → length front ≡ at
+      → take at (front ++ tail) ++ (piece ++ drop (at + w - at) (drop at (front ++ tail))) ≡ front ++ piece ++ drop w tail
+  put-part front tail piece at w h =
+      let e : at + w - at ≡ w = omega arith in
+      rw (take-at front tail at h, drop-at front tail at h, e) (sym (append-assoc front piece (drop w tail)))
 
 -- ---- lists built by flatMap from pieces of one width
 

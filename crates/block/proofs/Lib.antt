@@ -4,3 +4,5 @@ pub mod Doubles
 pub mod Heads
 pub mod Tables
 pub mod Reading
+pub mod Numbers
+pub mod Outcomes

@@ -1,15 +1,15 @@
 // Blocks of 512 bytes: read, written, and loaded as tables. The definitions that the contracts cite stand in specs/.
 ghost use mathlib.Core.Path.{_≡_};
 ghost use mathlib.Core.Bool.{true};
-ghost use mathlib.Core.List.{[]};
+ghost use mathlib.Core.List.{[], _++_};
 ghost use Prim.Native.Nat.{ℕ, _+_, _*_, _<_, _≤_, min};
-ghost use lib.ListN.{length};
+ghost use lib.ListN.{length, drop};
 ghost use Rattle.base.specs.Lists.{upTo};
 ghost use Rattle.block.specs.Format.{blockSize, recordSize, mostTasks, listSize};
 ghost use Rattle.block.specs.Record.{halfAt, wordAt, allZero, taskOf, recordOf, taskFrom, numbersOf, fits};
 ghost use Rattle.block.specs.Answers.{refusal, firstOf};
 ghost use Rattle.block.specs.Checks.{kindOn, taskChecks, recordChecks, numberChecks, doubleCheck, alike, borneIn};
-ghost use Rattle.block.specs.Block.{recordPart, tasksIn, checkOf, marked, headed, headChecks, eachRecord, eachDouble, bodyChecks, blockVerdict, readOf, tableOf, loadedOf, numbersPart, tasksFrom, blockOf, writeOf, replyOf, leftOf};
+ghost use Rattle.block.specs.Block.{recordPart, tasksIn, checkOf, marked, headed, headChecks, eachRecord, eachDouble, bodyChecks, blockVerdict, listOf, readOf, tableOf, loadedOf, numbersPart, tasksFrom, blockOf, writeOf, replyOf, leftOf};
 
 // The numbers of the format, each once.
 const BLOCK_SIZE: usize = 512;
@@ -281,6 +281,12 @@ fn number(x: u8) -> u32
     x as u32
 }
 
+fn whole(x: u16) -> u32
+    ensures { λ r. ⌜ r ≡ x ⌝ }
+{
+    x as u32
+}
+
 fn count(x: u8) -> usize
     ensures { λ r. ⌜ r ≡ x ⌝ }
 {
@@ -421,6 +427,67 @@ pub fn load(block: &[u8], side: u32) -> Loaded
                 },
                 mode,
                 table,
+            }
+        }
+    }
+}
+
+// A task's seven numbers, put into their part of a list.
+fn put_numbers(numbers: &mut [u32], x: Task)
+    requires { ⌜ length (now numbers) ≡ listSize ⌝ }
+    ensures { λ _. ⌜ now (numbers .exit) ≡ numbersOf x ⌝ }
+{
+    let seven: [u32; 7] = [
+        number(x.kind),
+        number(x.priority),
+        whole(x.number),
+        whole(x.period),
+        whole(x.deadline),
+        whole(x.execution),
+        whole(x.offset),
+    ];
+    base::copy_numbers(numbers, &seven);
+}
+
+// The tasks of the first n records, put to the front of a list.
+fn put_tasks(block: &[u8], n: usize, list: &mut [u32])
+    requires { ⌜ (length (now block) ≡ blockSize) × (n ≤ mostTasks) × (listSize * n ≤ length (now list)) ⌝ }
+    ensures { λ _. ⌜ now (list .exit) ≡ listOf (tasksIn (now (block .entry)) n) ++ drop (listSize * n) (now (list .entry)) ⌝ }
+{
+    let mut k: usize = 0;
+    while k < n {
+        let from = HEAD_SIZE + RECORD_SIZE * k;
+        let task = record_at(&block[from..from + RECORD_SIZE]);
+        let at = LIST_SIZE * k;
+        put_numbers(&mut list[at..at + LIST_SIZE], task);
+        k += 1;
+    }
+}
+
+// A block into the front of a lent list of numbers, seven a task.
+pub fn read(block: &[u8], side: u32, list: &mut [u32]) -> Answer
+    ensures { λ r. ⌜ (r ≡ readOf side (now (block .entry)) (now (list .entry)) .reply) × (now (list .exit) ≡ readOf side (now (block .entry)) (now (list .entry)) .list) ⌝ }
+{
+    match check_block(block, side) {
+        Verdict::Refused(a) => a,
+        Verdict::Passed => {
+            let mode = whole(half_at(block, 4));
+            let tasks = number(block[3]);
+            let n = count(block[3]);
+            if list.len() < LIST_SIZE * n {
+                return Answer {
+                    code: 8,
+                    side: 2,
+                    record: 0,
+                    detail: 0,
+                };
+            }
+            put_tasks(block, n, list);
+            Answer {
+                code: 0,
+                side,
+                record: tasks,
+                detail: mode,
             }
         }
     }
