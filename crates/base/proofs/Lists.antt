@@ -30,6 +30,10 @@ pub or-right : (b c : Bool) → b || c ≡ false → c ≡ false
 or-right true c e = let z : _≡_ {A = ℕ} 0 1 = cc in absurd (omega arith)
 or-right false c e = e
 
+and-false : (b : Bool) → b && false ≡ false
+and-false true = refl
+and-false false = refl
+
 or-true : (b : Bool) → b || true ≡ true
 or-true true = refl
 or-true false = refl
@@ -87,6 +91,12 @@ module _ {A : Type 0} where
   unfolding every
   every-all p [] d h = refl
   every-all p (x ∷ xs) d h = rw (h 0 (omega arith), every-all p xs d (λ i l. h (suc i) (omega arith)))
+
+  pub every-not : (p : A → Bool) (l : List A) (i : ℕ) (d : A) → i < length l → p (getD l i d) ≡ false → every p l ≡ false
+  unfolding every
+  every-not p [] i d h e = absurd (omega arith)
+  every-not p (x ∷ xs) zero d h e = rw e
+  every-not p (x ∷ xs) (suc i) d h e = rw (every-not p xs i d (omega arith) e) (and-false (p x))
 
   pub any-more : (p : A → Bool) (xs ys : List A) → any p (xs ++ ys) ≡ any p xs || any p ys
   unfolding any

@@ -6,3 +6,6 @@ pub mod Tables
 pub mod Reading
 pub mod Numbers
 pub mod Outcomes
+pub mod Fits
+pub mod Written
+pub mod Writes

@@ -142,25 +142,25 @@ tasksOf l = tasksFrom l (length l / listSize)
 abbrev pub eachSeven : ℕ → List ℕ → ℕ → List Verdict
 eachSeven side l n = upTo (λ k. firstOf (numberChecks side k (numbersPart l k))) n
 
-unfoldable pub listHead : ℕ → List ℕ → ℕ → List Verdict
-listHead side l room =
+unfoldable pub listHead : ℕ → ℕ → ℕ → List Verdict
+listHead side size room =
     refuse (not (eqb room blockSize)) (refusal 1 side 0)
-    ∷ refuse (not (eqb (length l % listSize) 0)) (refusal 11 2 0)
-    ∷ refuse (not (leb side 1 && leb (length l / listSize) mostTasks)) (refusal 4 side 0)
+    ∷ refuse (not (eqb (size % listSize) 0)) (refusal 11 2 0)
+    ∷ refuse (not (leb side 1 && leb (size / listSize) mostTasks)) (refusal 4 side 0)
     ∷ []
 
 abbrev pub listChecks : ℕ → List ℕ → ℕ → List Verdict
-listChecks side l room = listHead side l room ++ eachSeven side l (length l / listSize) ++ eachDouble side (tasksOf l)
+listChecks side l room = listHead side (length l) room ++ eachSeven side l (length l / listSize) ++ eachDouble side (tasksOf l)
 
 unfoldable pub listVerdict : ℕ → List ℕ → ℕ → Verdict
 listVerdict side l room = firstOf (listChecks side l room)
 
 -- the block of some tasks: head, records, zeros, and the check of what stands before it
+unfoldable pub headOf : ℕ → ℕ → ℕ → List ℕ
+headOf side mode n = markFirst ∷ markSecond ∷ side ∷ n ∷ (halfBytes mode ++ (0 ∷ 0 ∷ []))
+
 unfoldable pub bodyOf : ℕ → ℕ → List Task → List ℕ
-bodyOf side mode xs =
-    (markFirst ∷ markSecond ∷ side ∷ length xs ∷ (halfBytes mode ++ (0 ∷ 0 ∷ [])))
-    ++ flatMap recordOf xs
-    ++ replicate (checkPlace - recordPlace (length xs)) 0
+bodyOf side mode xs = headOf side mode (length xs) ++ flatMap recordOf xs ++ replicate (checkPlace - recordPlace (length xs)) 0
 
 unfoldable pub blockOf : ℕ → ℕ → List Task → List ℕ
 blockOf side mode xs = bodyOf side mode xs ++ wordBytes (checkOf (bodyOf side mode xs))

@@ -42,7 +42,7 @@ taskOf r = record {
 -- the sixteen bytes of a task
 unfoldable pub recordOf : Task → List ℕ
 recordOf x =
-    x .kind % 256 ∷ x .priority % 256
+    x .kind ∷ x .priority
     ∷ (halfBytes (x .number) ++ halfBytes (x .period) ++ halfBytes (x .deadline) ++ halfBytes (x .execution) ++ halfBytes (x .offset) ++ (0 ∷ 0 ∷ 0 ∷ 0 ∷ []))
 
 -- the task that seven numbers say, and the seven numbers of a task

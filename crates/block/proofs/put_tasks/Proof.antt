@@ -83,8 +83,7 @@ loop-less c =
 loop-again : tie.Need-loop-again Inv-loop μ-loop
 loop-again c =
     let a = c .before .before .before .before .before .before .before .before .before .before .args in
-    let l = c .before .before .before .before .before .before .before .loop in
-    (
+    let l = c .before .before .before .before .before .before .before .loop in (
       search needs,
       search needs,
       list-more (λ k. taskOf (recordPart (a .block .now) k)) (l .list) (a .list .now) _ (l .k) (l .inv .2) (c .before .before .put-numbers .ensures ∙ ap numbersOf (c .before .before .before .before .record-at .ensures)),
