@@ -9,3 +9,5 @@ pub mod Outcomes
 pub mod Fits
 pub mod Written
 pub mod Writes
+pub mod Trips
+pub mod Back

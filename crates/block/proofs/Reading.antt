@@ -76,7 +76,7 @@ module _ (side : ℕ) (b : List ℕ) (passed : blockVerdict side b ≡ Passed) w
   unfolding blockVerdict
   block-head = first-left (headChecks side b) (bodyChecks side b (countByte b)) passed
 
-  block-body : firstOf (bodyChecks side b (countByte b)) ≡ Passed
+  pub block-body : firstOf (bodyChecks side b (countByte b)) ≡ Passed
   unfolding blockVerdict
   block-body = first-right (headChecks side b) (bodyChecks side b (countByte b)) passed
 
@@ -95,23 +95,23 @@ module _ (side : ℕ) (b : List ℕ) (passed : blockVerdict side b ≡ Passed) w
   pub block-doubles : firstOf (eachDouble side (tasksIn b (countByte b))) ≡ Passed
   block-doubles = first-right (eachRecord side b (countByte b)) _ (first-left _ _ block-body)
 
+  tasks-long : length (tasksIn b (countByte b)) ≡ countByte b
+  tasks-long = up-length (λ k. taskOf (recordPart b k)) (countByte b)
+
+  -- each task passes the rules of its own
+  pub block-task : (xs : List Task) → xs ≡ tasksIn b (countByte b) → (k : ℕ) → k < length xs → firstOf (taskChecks side k (getD xs k noTask)) ≡ Passed
+  block-task xs e k h =
+      let l : k < countByte b = omega (arith, ap length e, tasks-long) in
+      rw (e, up-at (λ k. taskOf (recordPart b k)) (countByte b) k noTask l)
+      (first-left (taskChecks side k (taskOf (recordPart b k))) _ (each-at (λ k. firstOf (recordChecks side k (recordPart b k))) (countByte b) k l block-records))
+
   pub block-legal : Legal side (tasksIn b (countByte b))
   block-legal = record {
-    few = omega (arith, long, block-count);
-    rules = λ k l. rw (up-at f (countByte b) k noTask (omega (arith, long))) (task-rules side k (f k) (task-passed k (omega (arith, long))));
+    few = omega (arith, tasks-long, block-count);
+    rules = λ k h. task-rules side k (getD (tasksIn b (countByte b)) k noTask) (block-task (tasksIn b (countByte b)) refl k h);
     numbers = other-number side (tasksIn b (countByte b)) block-doubles;
     priorities = other-priority side (tasksIn b (countByte b)) block-doubles;
   }
-    where
-      f : ℕ → Task
-      f k = taskOf (recordPart b k)
-
-      long : length (upTo f (countByte b)) ≡ countByte b
-      long = up-length f (countByte b)
-
-      task-passed : (k : ℕ) → k < countByte b → firstOf (taskChecks side k (f k)) ≡ Passed
-      task-passed k l =
-          first-left (taskChecks side k (f k)) _ (each-at (λ k. firstOf (recordChecks side k (recordPart b k))) (countByte b) k l block-records)
 
 -- ---- a block that holds tasks
 

@@ -68,6 +68,11 @@ module _ (f : ℕ → Verdict) where
   unfolding upTo firstOf
   each-more k e h = rw add-one (first-last (upTo f k) (f k) Passed e h)
 
+  pub each-all : (n : ℕ) → ((k : ℕ) → k < n → f k ≡ Passed) → firstOf (upTo f n) ≡ Passed
+  unfolding upTo firstOf
+  each-all zero h = refl
+  each-all (suc n) h = first-last (upTo f n) (f n) Passed (each-all n (λ k l. h k (omega arith))) (h n (omega arith))
+
   pub each-stop : (n k : ℕ) (a : Answer) → k < n → firstOf (upTo f k) ≡ Passed → f k ≡ Refused a → firstOf (upTo f n) ≡ Refused a
   unfolding upTo firstOf
   each-stop zero k a l e h = absurd (omega arith)

@@ -28,7 +28,7 @@ eight side mode n = refl
 records-length : (xs : List Task) → length (flatMap recordOf xs) ≡ recordSize * length xs
 records-length xs = flat-length recordOf recordSize sixteen xs
 
-front-length : (head : List ℕ) (xs : List Task) → length head ≡ headSize → length (head ++ flatMap recordOf xs) ≡ recordPlace (length xs)
+pub front-length : (head : List ℕ) (xs : List Task) → length head ≡ headSize → length (head ++ flatMap recordOf xs) ≡ recordPlace (length xs)
 front-length head xs h = simp length-append (omega (arith, records-length xs))
 
 pub body-length : (side mode : ℕ) (xs : List Task) → length xs ≤ mostTasks → length (bodyOf side mode xs) ≡ checkPlace
