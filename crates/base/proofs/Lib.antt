@@ -4,3 +4,4 @@ pub mod Search
 pub mod Recip
 pub mod Flat
 pub mod Lists
+pub mod Unique

@@ -30,7 +30,7 @@ pub or-right : (b c : Bool) → b || c ≡ false → c ≡ false
 or-right true c e = let z : _≡_ {A = ℕ} 0 1 = cc in absurd (omega arith)
 or-right false c e = e
 
-and-false : (b : Bool) → b && false ≡ false
+pub and-false : (b : Bool) → b && false ≡ false
 and-false true = refl
 and-false false = refl
 

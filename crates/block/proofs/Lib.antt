@@ -11,3 +11,4 @@ pub mod Written
 pub mod Writes
 pub mod Trips
 pub mod Back
+pub mod Unique
