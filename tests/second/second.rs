@@ -23,7 +23,7 @@ use tables::*;
 const LENT: u32 = 0xEEEE_EEEE;
 
 /// The planted faults by number, from 1, each with the kind of stream that has to show it.
-const FAULTS: [(&str, &str); 29] = [
+const FAULTS: [(&str, &str); 31] = [
     ("batch", "floor for ceil in the completed terms of a phase"),
     ("batch", "t for m: completed tasks go on releasing after the request"),
     ("batch", "the aborted term without its min"),
@@ -46,6 +46,8 @@ const FAULTS: [(&str, &str); 29] = [
     ("batch", "code 7 looked for before 5 and 6"),
     ("batch", "a new job already counted at t = x + Y"),
     ("batch", "unused room ends a byte early"),
+    ("batch", "completed tasks add nothing from the request"),
+    ("batch", "of aborted tasks only whole periods counted at a phase"),
     ("read", "a bad wanted side refused before length, check and mark"),
     ("read", "a list one number short accepted"),
     ("read", "the list filled before a refusal"),
@@ -114,7 +116,7 @@ impl Second {
     fn block(&self, b: &[u8], wanted: u32) -> Result<(Vec<Task>, u32), Answer> {
         let side = wanted.min(2);
         let two = |at: usize| b[at] as u32 + 256 * b[at + 1] as u32;
-        if side == 2 && self.fault == 23 {
+        if side == 2 && self.fault == 25 {
             return refuse(4, 2, 0, 0);
         }
         if b.len() != 512 {
@@ -159,13 +161,13 @@ impl Second {
         let (tasks, mode) = match self.block(b, wanted) {
             Ok(read) => read,
             Err(answer) => {
-                if self.fault == 25 {
+                if self.fault == 27 {
                     list.iter_mut().take(1).for_each(|v| *v = 0);
                 }
                 return answer;
             }
         };
-        if 7 * tasks.len() > list.len() + (self.fault == 24) as usize {
+        if 7 * tasks.len() > list.len() + (self.fault == 26) as usize {
             return Answer([8, 2, 0, 0]);
         }
         list.iter_mut().zip(tasks.iter().flat_map(Task::list)).for_each(|(to, v)| *to = v);
@@ -178,7 +180,7 @@ impl Second {
             return refusal(1, side.min(2));
         }
         let odd = list.len() % 7 != 0;
-        if odd && self.fault != 27 {
+        if odd && self.fault != 29 {
             return refusal(11, 2);
         }
         if side > 1 || list.len() / 7 > 30 {
@@ -187,7 +189,7 @@ impl Second {
         if odd {
             return refusal(11, 2);
         }
-        let cut = |v: &[u32]| if self.fault == 26 { v.iter().map(|n| n % 65_536).collect() } else { v.to_vec() };
+        let cut = |v: &[u32]| if self.fault == 28 { v.iter().map(|n| n % 65_536).collect() } else { v.to_vec() };
         let tasks: Vec<Task> = list.chunks(7).map(|v| Task::of_list(&cut(v))).collect();
         if let Some(k) = tasks.iter().position(|v| self.breaks(side, v)) {
             return Answer([5, side, k as u32, 0]);
@@ -218,6 +220,7 @@ impl Second {
             COMPLETED if self.fault == 2 => t.div_ceil(v.t) * v.c,
             COMPLETED => m.div_ceil(v.t) * v.c,
             ABORTED if self.fault == 3 => m / v.t * v.c + m % v.t,
+            ABORTED if self.fault == 24 => m / v.t * v.c,
             ABORTED => m / v.t * v.c + v.c.min(m % v.t),
             _ => {
                 let first = x + if self.fault == 14 { 0 } else { v.y };
@@ -230,7 +233,7 @@ impl Second {
 
     fn request(&self, i: &Task, above: &[Task], t: u32) -> u32 {
         let term = |v: &Task| match v.kind {
-            COMPLETED => v.c,
+            COMPLETED => v.c * (self.fault != 23) as u32,
             ABORTED => v.c * (self.fault == 15) as u32,
             _ => t.saturating_sub(v.y).div_ceil(v.t) * v.c,
         };
@@ -292,14 +295,14 @@ impl Second {
         let (new, other) = self.block(new, 1)?;
         let pair = Pair { old, new, modes: [one, other] };
         let short = report.len() < 3 * pair.tasks().len();
-        if short && self.fault != 28 {
+        if short && self.fault != 30 {
             return refuse(8, 2, 0, 0);
         }
         let rows = self.rows(&pair.old, &pair.new)?;
         if short {
             return refuse(8, 2, 0, 0);
         }
-        if self.fault == 29 {
+        if self.fault == 31 {
             report.fill(0);
         }
         report.iter_mut().zip(rows.iter().flatten()).for_each(|(to, v)| *to = *v);
@@ -415,7 +418,7 @@ fn main() -> std::io::Result<()> {
         ["differ", stream, one, other] => {
             let text = |file: &str| std::fs::read(file).map(|b| String::from_utf8_lossy(&b).into_owned());
             if let Some(shown) = differ(&std::fs::read(stream)?, &text(one)?, &text(other)?) {
-                println!("{shown}");
+                println!("{}", shown.trim_end());
                 std::process::exit(1);
             }
         }
