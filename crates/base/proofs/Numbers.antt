@@ -3,8 +3,9 @@ use Prim.Native.Nat.{ℕ, zero, suc, _+_, _*_, _/_, _%_, _-_, _≤_, _<_, min}
 use mathlib.Core.Path.{_≡_, refl, sym, ap, _∙_}
 use mathlib.Core.Logic.{_⊎_, inl, inr, ⊎-elim}
 use native.Mathlib.Omega.{arith}
+use lib.Arith.{digits-div, digits-mod}
 use Rattle.base.specs.Numbers.{ceil, jobsIn, cutIn}
-use native.Mathlib.Nat.{eq-or-lt-of-le, div-zero, le-div-iff-mul-le, div-mul-le-self, le-trans, mul-le-mul-right, mul-le-mul, div-add-mod', suc-mul, div-le-self, add-assoc, add-div-left, div-eq-of-lt}
+use native.Mathlib.Nat.{eq-or-lt-of-le, div-zero, le-div-iff-mul-le, div-mul-le-self, le-trans, mul-le-mul-right, mul-le-mul, div-add-mod', suc-mul, div-le-self, add-assoc, add-div-left, div-eq-of-lt, mod-lt, le-refl, not-suc-le-zero}
 
 pub div-le : (p a b : ℕ) → a ≤ b → a / p ≤ b / p
 div-le zero a b h = omega (arith, div-zero a, div-zero b)
@@ -56,3 +57,60 @@ unfolding ceil
 ceil-one m T h l =
     let e : m + (T - 1) ≡ T + (m - 1) = omega arith in
     rw (e, add-div-left (m - 1) {k = T} (omega arith)) (omega (arith, div-eq-of-lt {n = m - 1} {m = T} (omega arith)))
+
+-- ---- whole and cut-off jobs by the digits of the time: k whole periods and r ticks
+
+pub record Digits (T t : ℕ) : Type 0 where
+  pub k : ℕ
+  pub r : ℕ
+  pub low : r < T
+  pub is : t ≡ k * T + r
+
+pub digits : (T t : ℕ) → 0 < T → Digits T t
+digits T t p = record { k = t / T; r = t % T; low = mod-lt t p; is = sym (div-add-mod' t T) }
+
+pub jobs-none : (T C : ℕ) → 0 < T → jobsIn T C 0 ≡ 0
+unfolding jobsIn
+jobs-none T C p = rw (ceil-zero T p) (omega arith)
+
+-- no more than one job in one period
+pub jobs-own : (T C t : ℕ) → 0 < T → t ≤ T → jobsIn T C t ≤ C
+unfolding jobsIn
+jobs-own T C t p h = omega (arith, jobs-rise T C t T h, one)
+  where
+    one : ceil T T * C ≡ C
+    one = rw (ceil-one T T p (le-refl T)) (omega arith)
+
+pub jobs-whole : (T C t k : ℕ) → 0 < T → t ≡ k * T + 0 → jobsIn T C t ≡ k * C
+unfolding jobsIn ceil
+jobs-whole T C t k p e =
+    let f : t + (T - 1) ≡ k * T + (T - 1) = omega arith in
+    rw (f, digits-div k {m = T} {r = T - 1} (omega arith))
+
+pub jobs-begun : (T C t k r : ℕ) → r < T → t ≡ k * T + suc r → jobsIn T C t ≡ k * C + C
+unfolding jobsIn ceil
+jobs-begun T C t k r h e =
+    let f : t + (T - 1) ≡ suc k * T + r = omega (arith, suc-mul k T) in
+    rw (f, digits-div (suc k) h) (suc-mul k C)
+
+pub cut-is : (T C t k r : ℕ) → r < T → t ≡ k * T + r → cutIn T C t ≡ k * C + min C r
+unfolding cutIn
+cut-is T C t k r h e = rw (e, digits-div k h, digits-mod k h)
+
+-- where a cut-off job is not yet whole, the last tick was its own
+pub cut-grows : (T C t : ℕ) → 0 < T → cutIn T C (suc t) < jobsIn T C (suc t) → cutIn T C t < cutIn T C (suc t)
+cut-grows T C t p h = go (digits T (suc t) p .k) (digits T (suc t) p .r) (digits T (suc t) p .low) (digits T (suc t) p .is)
+  where
+    go : (k r : ℕ) → r < T → suc t ≡ k * T + r → cutIn T C t < cutIn T C (suc t)
+    go k zero l e = absurd (omega (arith, h, cut-is T C (suc t) k 0 l e, jobs-whole T C (suc t) k p e))
+    go k (suc r) l e =
+        omega (arith, h, cut-is T C (suc t) k (suc r) l e, cut-is T C t k r (omega arith) (omega arith), jobs-begun T C (suc t) k r (omega arith) e)
+
+-- ---- induction over all smaller numbers
+
+pub strong {ℓ} : (P : ℕ → Type ℓ) → ((n : ℕ) → ((k : ℕ) → k < n → P k) → P n) → (n : ℕ) → P n
+strong P step n = go (suc n) n (le-refl (suc n))
+  where
+    go : (f m : ℕ) → m < f → P m
+    go zero m h = absurd (not-suc-le-zero h)
+    go (suc f) m h = step m (λ k l. go f k (omega arith))

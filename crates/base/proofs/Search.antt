@@ -5,8 +5,8 @@ use mathlib.Core.Bool.{Bool, true, false, cond}
 use mathlib.Core.Option.{Option, none, some}
 use mathlib.Core.Logic.{_⊎_, inl, inr, ⊎-elim}
 use native.Mathlib.Omega.{arith}
-use native.Mathlib.Nat.{eq-or-lt-of-le, lt-of-not-le}
-use native.Mathlib.Decide.{decLe}
+use native.Mathlib.Nat.{eq-or-lt-of-le, lt-of-not-le, eq-zero-or-pos, le-refl, not-suc-le-zero}
+use native.Mathlib.Decide.{decLe, decLt}
 use lib.Dec.{leb}
 use Rattle.base.specs.Search.{firstWhere, closes, windowOf}
 use borrow.Author.Tests.{le-leb, lt-leb, leb-true, leb-false}
@@ -147,3 +147,38 @@ where-same p q (suc n) s h = rw (h s (omega arith) (omega arith), where-same p q
 pub window-same : (f g : ℕ → ℕ) (limit : ℕ) → ((u : ℕ) → u ≤ limit → f u ≡ g u) → windowOf f limit ≡ windowOf g limit
 unfolding windowOf
 window-same f g limit h = where-same (closes f) (closes g) limit 1 (λ u a b. ap (λ (k : ℕ). leb k u) (h u (omega arith)))
+
+-- ---- where a function is zero
+
+-- some k below t with f k zero, or none
+pub find-zero : (f : ℕ → ℕ) (t : ℕ) → ((k : ℕ) × (k < t) × (f k ≡ 0)) ⊎ ((k : ℕ) → k < t → 0 < f k)
+find-zero f zero = inr (λ k l. absurd (not-suc-le-zero l))
+find-zero f (suc t) =
+    elim (find-zero f t) [
+      | inl p ↦ inl (p .0, omega arith, p .2)
+      | inr h ↦ elim (eq-zero-or-pos (f t)) [
+        | inl e ↦ inl (t, le-refl (suc t), e)
+        | inr p ↦ inr (λ k l. elim (decLt k t) [
+          | yes m ↦ h k m
+          | no m ↦ let e : t ≡ k = omega arith in omega (arith, ap f e)
+        ])
+      ]
+    ]
+
+-- the last s up to r with f s zero
+pub last-zero : (f : ℕ → ℕ) → f 0 ≡ 0 → (r : ℕ) → (s : ℕ) × (s ≤ r) × (f s ≡ 0) × ((u : ℕ) → s < u → u ≤ r → 0 < f u)
+last-zero f z zero = (0, omega arith, z, λ u l m. absurd (omega arith))
+last-zero f z (suc r) =
+    elim (eq-zero-or-pos (f (suc r))) [
+      | inl e ↦ (suc r, le-refl (suc r), e, λ u l m. absurd (omega arith))
+      | inr p ↦
+          let h = last-zero f z r in (
+            h .0,
+            omega arith,
+            h .2,
+            λ u l m. elim (decLe u r) [
+              | yes k ↦ h .3 u l k
+              | no k ↦ let e : suc r ≡ u = omega arith in omega (arith, ap f e)
+            ],
+          )
+    ]

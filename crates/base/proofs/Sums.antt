@@ -1,9 +1,9 @@
 -- Laws of sums: order, algebra, one term, and sums over lists.
-use mathlib.Core.Path.{_≡_, refl, sym, ap}
+use mathlib.Core.Path.{_≡_, refl, sym, ap, _∙_}
 use mathlib.Core.Logic.{_⊎_, inl, inr}
-use Prim.Native.Nat.{ℕ, zero, suc, _+_, _*_, _≤_, _<_}
-use native.Mathlib.Nat.{add-zero, add-suc, le-refl, mul-zero, eq-zero-or-pos, not-suc-le-zero}
-use native.Mathlib.Decide.{decLt}
+use Prim.Native.Nat.{ℕ, zero, suc, _+_, _-_, _*_, _≤_, _<_, min}
+use native.Mathlib.Nat.{add-zero, add-suc, le-refl, mul-zero, eq-zero-or-pos, not-suc-le-zero, min-eq-left, min-eq-right}
+use native.Mathlib.Decide.{decLt, decLe}
 use native.Mathlib.Numerals.{add-one}
 use native.Mathlib.Omega.{arith}
 use mathlib.Core.List.{List, [], _∷_, _++_}
@@ -125,3 +125,37 @@ module _ {A : Type 0} where
   unfolding sumOf
   list-mono f g h [] = omega arith
   list-mono f g h (x ∷ xs) = omega (arith, h x, list-mono f g h xs)
+
+-- ---- sums that stop early or start late, and sums over the places of a list
+
+pub sum-cut : (t x : ℕ) (f : ℕ → ℕ) → ((u : ℕ) → x ≤ u → f u ≡ 0) → sum t f ≡ sum (min t x) f
+sum-cut t x f h =
+    elim (decLe t x) [
+      | yes l ↦ rw (min-eq-left l)
+      | no l ↦
+          let e : t ≡ x + (t - x) = omega arith in
+          let z = sum-zero (t - x) (λ k. f (x + k)) (λ k m. h (x + k) (omega arith)) in
+          rw (min-eq-right {n = x} {m = t} (omega arith)) (ap (λ (k : ℕ). sum k f) e ∙ sum-split x (t - x) f ∙ omega arith)
+    ]
+
+pub sum-late : (t y : ℕ) (f : ℕ → ℕ) → ((u : ℕ) → u < y → f u ≡ 0) → sum t f ≡ sum (t - y) (λ k. f (y + k))
+sum-late t y f h =
+    elim (decLe t y) [
+      | yes l ↦
+          let e : t - y ≡ 0 = omega arith in
+          rw e (sum-zero t f (λ u m. h u (omega arith)) ∙ unfold sum in refl)
+      | no l ↦
+          let e : t ≡ y + (t - y) = omega arith in
+          let z = sum-zero y f (λ u m. h u m) in
+          ap (λ (k : ℕ). sum k f) e ∙ sum-split y (t - y) f ∙ omega arith
+    ]
+
+sum-first : (n : ℕ) (f : ℕ → ℕ) → sum (suc n) f ≡ f 0 + sum n (λ k. f (suc k))
+unfolding sum
+sum-first zero f = omega arith
+sum-first (suc n) f = omega (arith, sum-first n f)
+
+pub list-places : {A : Type 0} (f : A → ℕ) (xs : List A) (d : A) → sumOf f xs ≡ sum (length xs) (λ k. f (getD xs k d))
+unfolding sum sumOf
+list-places f [] d = refl
+list-places f (x ∷ xs) d = omega (arith, list-places f xs d, sum-first (length xs) (λ k. f (getD (x ∷ xs) k d)))

@@ -1,0 +1,4 @@
+pub mod Picks
+pub mod Counted
+pub mod Accounts
+pub mod Levels
