@@ -6,3 +6,5 @@ pub mod Tasks
 pub mod Demands
 pub mod Whole
 pub mod Shares
+pub mod Fits
+pub mod Within
