@@ -8,3 +8,7 @@ pub mod Whole
 pub mod Shares
 pub mod Fits
 pub mod Within
+pub mod Unique
+pub mod Played
+pub mod Waited
+pub mod Exact
