@@ -12,3 +12,5 @@ pub mod Unique
 pub mod Played
 pub mod Waited
 pub mod Exact
+pub mod Swept
+pub mod Rows
