@@ -14,3 +14,5 @@ pub mod Waited
 pub mod Exact
 pub mod Swept
 pub mod Rows
+pub mod Accepted
+pub mod Promise

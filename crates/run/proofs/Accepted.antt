@@ -1,0 +1,221 @@
+-- What an answer 0 of the analysis gives: both blocks read, every task is timely, and the report holds the rows.
+use Prim.Native.Nat.{ℕ, zero, suc, _+_, _*_, _≤_, _<_}
+use mathlib.Core.Path.{_≡_, refl, sym, ap, _∙_}
+use mathlib.Core.Bool.{Bool, true, false, _&&_, not}
+use mathlib.Core.List.{List, [], _∷_, _++_, flatMap, append-assoc}
+use native.Mathlib.Nat.{le-refl, not-suc-le-zero, mul-suc}
+use native.Mathlib.Decide.{decLt}
+use native.Mathlib.Omega.{arith}
+use lib.ListN.{length, getD, drop, List·getD-append}
+use borrow.Author.Tests.{ltb-true}
+use lib.Dec.{ltb}
+use lib.Seq.{getD-append-add}
+use Rattle.base.specs.Lists.{upTo}
+use Rattle.block.specs.declared.Task.{Task}
+use Rattle.block.specs.declared.Answer.{Answer}
+use Rattle.block.specs.declared.Verdict.{Verdict}
+use Rattle.block.specs.declared.Verdict.the-variants.{Passed, Refused}
+use Rattle.block.specs.Record.{allZero}
+use Rattle.block.specs.Answers.{answer, refusal, refuse, firstOf}
+use Rattle.block.specs.Checks.{noTask, taskChecks, recordChecks, doubleCheck}
+use Rattle.block.specs.Block.{Reading, holds, spoilt, reading, readingOf, blockVerdict, countByte, recordPart, tasksIn, headChecks, blockChecks, unusedRoom}
+use Rattle.rows.specs.declared.Row.{Row}
+use Rattle.rows.specs.declared.Judged.{Judged}
+use Rattle.rows.specs.declared.Judged.the-variants.{Timely, Late}
+use Rattle.rows.specs.Row.{rowOf}
+use Rattle.rows.specs.Rows.{rowSize, rowNumbers, rowsOf, lateCheck, lateChecks}
+use Rattle.pair.specs.Analysis.{pairChecks, settled, judged, analyseOf}
+use Rattle.run.specs.Promise.{count, task, firstNumber}
+use Rattle.run.proofs.Tasks.{by-side}
+
+-- ---- the first check that refuses
+
+-- a refusal has a code other than 0
+coded : Verdict → Bool
+coded Passed = true
+coded (Refused a) = ltb 0 (a .code)
+
+refuse-coded : (b : Bool) (a : Answer) → ltb 0 (a .code) ≡ true → coded (refuse b a) ≡ true
+unfolding coded
+refuse-coded true a h = h
+refuse-coded false a h = refl
+
+both : (b c : Bool) → b && c ≡ true → (b ≡ true) × (c ≡ true)
+both true c e = (refl, e)
+both false c e = (e, cc)
+
+-- every refusal of a list has, and so the first one
+each-coded : List Verdict → Bool
+each-coded [] = true
+each-coded (v ∷ vs) = coded v && each-coded vs
+
+coded-append : (xs ys : List Verdict) → each-coded xs ≡ true → each-coded ys ≡ true → each-coded (xs ++ ys) ≡ true
+unfolding each-coded
+coded-append [] ys c d = d
+coded-append (v ∷ xs) ys c d = let h = both (coded v) (each-coded xs) c in rw (h .0) (coded-append xs ys (h .1) d)
+
+coded-each : (f : ℕ → Verdict) (n : ℕ) → ((k : ℕ) → coded (f k) ≡ true) → each-coded (upTo f n) ≡ true
+unfolding each-coded upTo
+coded-each f zero h = refl
+coded-each f (suc n) h = coded-append (upTo f n) (f n ∷ []) (coded-each f n h) (rw (h n))
+
+first-coded : (vs : List Verdict) → each-coded vs ≡ true → coded (firstOf vs) ≡ true
+unfolding each-coded coded firstOf
+first-coded [] c = refl
+first-coded (Passed ∷ vs) c = first-coded vs c
+first-coded (Refused a ∷ vs) c = both (coded (Refused a)) (each-coded vs) c .0
+
+refused-passed : {a : Answer} → Refused a ≡ Passed → ⊥
+refused-passed e = let z : _≡_ {A = ℕ} 0 1 = cc in omega arith
+
+passed-append : (xs ys : List Verdict) → firstOf (xs ++ ys) ≡ Passed → (firstOf xs ≡ Passed) × (firstOf ys ≡ Passed)
+unfolding firstOf
+passed-append [] ys e = (refl, e)
+passed-append (Passed ∷ xs) ys e = passed-append xs ys e
+passed-append (Refused a ∷ xs) ys e = absurd (refused-passed e)
+
+passed-cons : (v : Verdict) (vs : List Verdict) → firstOf (v ∷ vs) ≡ Passed → (v ≡ Passed) × (firstOf vs ≡ Passed)
+unfolding firstOf
+passed-cons Passed vs e = (refl, e)
+passed-cons (Refused a) vs e = absurd (refused-passed e)
+
+passed-each : (f : ℕ → Verdict) (n : ℕ) → firstOf (upTo f n) ≡ Passed → (k : ℕ) → k < n → f k ≡ Passed
+unfolding upTo
+passed-each f zero e k l = absurd (not-suc-le-zero l)
+passed-each f (suc n) e k l =
+    let p = passed-append (upTo f n) (f n ∷ []) e in
+    elim (decLt k n) [
+      | yes h ↦ passed-each f n (p .0) k h
+      | no h ↦ let z : k ≡ n = omega arith in ap f z ∙ passed-cons (f n) [] (p .1) .0
+    ]
+
+-- ---- a block that does not read
+
+record-coded : (side k : ℕ) (r : List ℕ) → coded (firstOf (recordChecks side k r)) ≡ true
+unfolding each-coded
+record-coded side k r = first-coded (recordChecks side k r) (simp refuse-coded)
+
+block-coded : (side : ℕ) (b : List ℕ) → coded (blockVerdict side b) ≡ true
+unfolding blockVerdict each-coded
+block-coded side b =
+    first-coded (blockChecks side b) (simp refuse-coded
+    (coded-append (upTo records n ++ upTo doubles n) rest
+    (coded-append (upTo records n) (upTo doubles n) (coded-each records n (λ k. record-coded side k (recordPart b k))) (coded-each doubles n (λ k. simp refuse-coded)))
+    (simp refuse-coded)))
+  where
+    n : ℕ
+    n = countByte b
+
+    records : ℕ → Verdict
+    records k = firstOf (recordChecks side k (recordPart b k))
+
+    doubles : ℕ → Verdict
+    doubles = doubleCheck side (tasksIn b n)
+
+    rest : List Verdict
+    rest = refuse (not (allZero (unusedRoom b n))) (refusal 7 side 0) ∷ []
+
+spoilt-code : (side : ℕ) (b : List ℕ) (a : Answer) → readingOf side b ≡ spoilt a → 0 < a .code
+unfolding readingOf coded
+spoilt-code side b a e = go (blockVerdict side b) (block-coded side b) e
+  where
+    go : (v : Verdict) → coded v ≡ true → reading v b ≡ spoilt a → 0 < a .code
+    go Passed c f = absurd (let z : _≡_ {A = ℕ} 0 1 = cc in omega arith)
+    go (Refused a′) c f = let z : a′ ≡ a = cc in ltb-true 0 (a .code) (rw z at c)
+
+-- ---- a pair that is not settled
+
+late-coded : (code side k : ℕ) (j : Judged) → ltb 0 code ≡ true → coded (lateCheck code side k j) ≡ true
+unfolding coded
+late-coded code side k (Timely r) h = refl
+late-coded code side k (Late d) h = h
+
+pair-coded : (olds news : List Task) (room : ℕ) → coded (firstOf (pairChecks olds news room)) ≡ true
+unfolding each-coded
+pair-coded olds news room =
+    first-coded (pairChecks olds news room) (simp refuse-coded
+    (coded-append (upTo old-check (length olds)) (upTo new-check (length news))
+    (coded-each old-check (length olds) (λ k. late-coded 9 0 k (rowOf olds news (task olds k)) refl))
+    (coded-each new-check (length news) (λ k. late-coded 10 1 k (rowOf olds news (task news k)) refl))))
+  where
+    old-check : ℕ → Verdict
+    old-check k = lateCheck 9 0 k (rowOf olds news (task olds k))
+
+    new-check : ℕ → Verdict
+    new-check k = lateCheck 10 1 k (rowOf olds news (task news k))
+
+-- ---- a pair that is
+
+timely : (code side k : ℕ) (j : Judged) → lateCheck code side k j ≡ Passed → (r : Row) × (j ≡ Timely r)
+timely code side k (Timely r) e = (r, refl)
+timely code side k (Late d) e = absurd (refused-passed e)
+
+all-timely : (olds news : List Task) (room : ℕ) → firstOf (pairChecks olds news room) ≡ Passed
+    → (i : ℕ) → i < count (olds ++ news) → (r : Row) × (rowOf olds news (task (olds ++ news) i) ≡ Timely r)
+all-timely olds news room e =
+    let late = passed-cons (refuse (ltb room (rowSize * (length olds + length news))) (answer 8 2 0 0)) (lateChecks olds news) e .1 in
+    let each = passed-append (upTo old-check (length olds)) (upTo new-check (length news)) late in
+    by-side olds news (λ x. (r : Row) × (rowOf olds news x ≡ Timely r))
+    (λ k l. timely 9 0 k (rowOf olds news (task olds k)) (passed-each old-check (length olds) (each .0) k l))
+    (λ k l. timely 10 1 k (rowOf olds news (task news k)) (passed-each new-check (length news) (each .1) k l))
+  where
+    old-check : ℕ → Verdict
+    old-check k = lateCheck 9 0 k (rowOf olds news (task olds k))
+
+    new-check : ℕ → Verdict
+    new-check k = lateCheck 10 1 k (rowOf olds news (task news k))
+
+next-row : (a b c : ℕ) (l : List ℕ) (i : ℕ) → firstNumber (a ∷ b ∷ c ∷ l) (suc i) ≡ firstNumber l i
+next-row a b c l i = let z : rowSize * suc i ≡ suc (suc (suc (rowSize * i))) = omega arith in rw z
+
+-- row i of a list of rows, whatever stands behind them
+row-at : (f : Task → Judged) (xs : List Task) (rest : List ℕ) (i : ℕ) (r : Row) → i < length xs → f (task xs i) ≡ Timely r
+    → firstNumber (flatMap (λ x. rowNumbers (f x)) xs ++ rest) i ≡ r .first
+unfolding flatMap
+row-at f [] rest i r l e = absurd (not-suc-le-zero l)
+row-at f (x ∷ xs) rest zero r l e = rw e
+row-at f (x ∷ xs) rest (suc i) r l e = go (f x) (row-at f xs rest i r (omega arith) e)
+  where
+    go : (j : Judged) → firstNumber (flatMap (λ x. rowNumbers (f x)) xs ++ rest) i ≡ r .first
+        → firstNumber (rowNumbers j ++ flatMap (λ x. rowNumbers (f x)) xs ++ rest) (suc i) ≡ r .first
+    go (Timely s) h = next-row (s .first) (s .second) (s .third) (flatMap (λ x. rowNumbers (f x)) xs ++ rest) i ∙ h
+    go (Late d) h = next-row 0 0 0 (flatMap (λ x. rowNumbers (f x)) xs ++ rest) i ∙ h
+
+-- ---- code 0
+
+pub record Accepted (oldBlock newBlock report : List ℕ) : Type 0 where
+  pub mode : ℕ
+  pub mode′ : ℕ
+  pub olds : List Task
+  pub news : List Task
+  pub old-reads : readingOf 0 oldBlock ≡ holds mode olds
+  pub new-reads : readingOf 1 newBlock ≡ holds mode′ news
+  -- every task is timely, and the first number of its row is where the report then has it
+  pub row : (i : ℕ) → i < count (olds ++ news)
+      → (r : Row) × (rowOf olds news (task (olds ++ news) i) ≡ Timely r) × (firstNumber (analyseOf oldBlock newBlock report .report) i ≡ r .first)
+
+pub accepted : (oldBlock newBlock report : List ℕ) → analyseOf oldBlock newBlock report .reply .code ≡ 0 → Accepted oldBlock newBlock report
+unfolding analyseOf coded
+accepted oldBlock newBlock report e = blocks (readingOf 0 oldBlock) (readingOf 1 newBlock) refl refl e
+  where
+    pair : (m k : ℕ) (olds news : List Task) → readingOf 0 oldBlock ≡ holds m olds → readingOf 1 newBlock ≡ holds k news
+        → (v : Verdict) → firstOf (pairChecks olds news (length report)) ≡ v → settled v (rowsOf olds news) report .reply .code ≡ 0
+        → Accepted oldBlock newBlock report
+    pair m k olds news o w Passed f c = record {
+      mode = m;
+      mode′ = k;
+      olds = olds;
+      news = news;
+      old-reads = o;
+      new-reads = w;
+      row = λ i l.
+          let t = all-timely olds news (length report) f i l in
+          (t .0, t .1, rw (o, w, f) (row-at (rowOf olds news) (olds ++ news) (drop (length (rowsOf olds news)) report) i (t .0) l (t .1)));
+    }
+    pair m k olds news o w (Refused a) f c =
+        absurd (omega (arith, ltb-true 0 (a .code) (rw f at (pair-coded olds news (length report)))))
+
+    blocks : (x y : Reading) → readingOf 0 oldBlock ≡ x → readingOf 1 newBlock ≡ y → judged x y report .reply .code ≡ 0 → Accepted oldBlock newBlock report
+    blocks (spoilt a) y o w c = absurd (omega (arith, spoilt-code 0 oldBlock a o))
+    blocks (holds m olds) (spoilt a) o w c = absurd (omega (arith, spoilt-code 1 newBlock a w))
+    blocks (holds m olds) (holds k news) o w c = pair m k olds news o w (firstOf (pairChecks olds news (length report))) refl c
