@@ -1,18 +1,6 @@
+-- Behaviour is about runs alone, Analysis about demands and windows alone; Result joins them. The theorem is Result.Promise.promise.
 pub mod Picks
-pub mod Counted
-pub mod Accounts
-pub mod Levels
 pub mod Tasks
-pub mod Demands
-pub mod Whole
-pub mod Shares
-pub mod Fits
-pub mod Within
-pub mod Unique
-pub mod Played
-pub mod Waited
-pub mod Exact
-pub mod Swept
-pub mod Rows
-pub mod Accepted
-pub mod Promise
+pub mod Behaviour
+pub mod Analysis
+pub mod Result

@@ -4,12 +4,12 @@ use mathlib.Core.Path.{_≡_, refl, sym, ap, _∙_}
 use mathlib.Core.List.{List, _++_}
 use native.Mathlib.Decide.{decLt}
 use native.Mathlib.Omega.{arith}
-use lib.ListN.{length, getD, length-append, List·getD-append}
+use lib.ListN.{length, length-append, List·getD-append}
 use lib.Seq.{getD-append-add}
 use Rattle.block.specs.declared.Task.{Task}
 use Rattle.block.specs.Checks.{noTask}
-use Rattle.block.specs.Legal.{Rules, Legal}
-use Rattle.window.specs.Order.{Kind, completed, aborted, new, kindAt, kindOf, sideOf, rank}
+use Rattle.block.specs.Legal.{Legal}
+use Rattle.window.specs.Order.{Kind, completed, aborted, new, kindAt, sideOf, rank}
 use Rattle.run.specs.Promise.{count, task}
 
 -- by kind, with the equation

@@ -1,6 +1,6 @@
 -- A timely row: its first number bounds windows that close, and for a completed task it is the least window at one of the phases.
-use Prim.Native.Nat.{ℕ, zero, suc, _+_, _-_, _≤_, _<_, max}
-use mathlib.Core.Path.{_≡_, refl, sym, ap, _∙_}
+use Prim.Native.Nat.{ℕ, _+_, _-_, _<_, max}
+use mathlib.Core.Path.{_≡_, refl, ap}
 use mathlib.Core.List.{List, _++_}
 use mathlib.Core.Option.{Option, none, some}
 use native.Mathlib.Nat.{le-refl}
@@ -17,14 +17,13 @@ use Rattle.window.specs.Order.{Kind, completed, aborted, new, kindOf}
 use Rattle.window.specs.Demand.{steadyDemand, phaseDemand, requestDemand}
 use Rattle.window.specs.Worst.{sweep}
 use Rattle.rows.specs.declared.Row.{Row}
-use Rattle.rows.specs.declared.Judged.{Judged}
 use Rattle.rows.specs.declared.Judged.the-variants.{Timely, Late}
 use Rattle.rows.specs.Row.{orZero, steadyWindow, phaseWindow, requestWindow, completedRow, abortedRow, newRow, rowBy, rowOf}
 use Rattle.run.specs.Promise.{count, task}
-use Rattle.run.proofs.Tasks.{Sound, sound, by-kind}
-use Rattle.run.proofs.Demands.{demandOld, demandNew, demandPhase, demandRequest, steady-old, steady-new, at-phase, from-request}
-use Rattle.run.proofs.Swept.{IsWorst, sweep-worst}
-use Rattle.run.proofs.Within.{Closes, CompletedWindows, AbortedWindow, NewWindows, Windows}
+use Rattle.run.proofs.Tasks.{Sound, sound}
+use Rattle.run.proofs.Analysis.Demands.{demandOld, demandNew, demandPhase, demandRequest, steady-old, steady-new, at-phase, from-request}
+use Rattle.run.proofs.Analysis.Swept.{IsWorst, sweep-worst}
+use Rattle.run.proofs.Analysis.Windows.{Closes, CompletedWindows, AbortedWindow, NewWindows, Windows, Least}
 
 same-first : {r r′ : Row} → Timely r ≡ Timely r′ → r .first ≡ r′ .first
 same-first {r} {r′} e = let z : r ≡ r′ = cc in ap (λ (x : Row). x .first) z
@@ -35,12 +34,6 @@ not-late e = let z : _≡_ {A = ℕ} 0 1 = cc in omega arith
 -- a demand that is the same at every t closes with it
 closing : (f g : ℕ → ℕ) (limit t : ℕ) → ((u : ℕ) → f u ≡ g u) → windowOf f limit ≡ some t → Closes g 0 t
 closing f g limit t e h = let w = window-found f limit t h in record { some = w .first; closed = omega (arith, w .closes, e t) }
-
--- the number is the least window at a phase
-pub record Least (n : ℕ) (tk : ℕ → Task) (i number : ℕ) : Type 0 where
-  pub phase : ℕ
-  pub some : 0 < phase
-  pub least : (u : ℕ) → 0 < u → demandPhase n tk i phase u ≤ u → number ≤ u
 
 module _ (olds news : List Task) (old-legal : Legal 0 olds) (new-legal : Legal 1 news) (i : ℕ) (l : i < count (olds ++ news)) where
   abbrev n : ℕ

@@ -3,14 +3,13 @@ use Prim.Native.Nat.{ℕ, zero, suc, _+_, _-_, _≤_, _<_, min}
 use mathlib.Core.Path.{_≡_, refl, sym, ap, _∙_}
 use mathlib.Core.Bool.{true}
 use mathlib.Core.List.{List, [], _∷_, _++_}
-use native.Mathlib.Nat.{le-refl, le-antisymm}
 use native.Mathlib.Decide.{decLt, ℕ-discrete}
 use native.Mathlib.Omega.{arith}
 use borrow.Author.Tests.{ltb-true, lt-ltb, le-ltb, le-leb, lt-leb, eq-eqb, ne-eqb}
 use lib.Dec.{leb, eqb}
-use lib.ListN.{length, getD}
+use lib.ListN.{length}
 use Rattle.base.specs.Sums.{sum, sumOf}
-use Rattle.base.proofs.Sums.{sum-le, sum-lt, sum-eq, sum-add, sum-only, sum-zero, list-append, list-places}
+use Rattle.base.proofs.Sums.{sum-le, sum-lt, sum-eq, sum-add, sum-only, list-append, list-places}
 use Rattle.block.specs.declared.Task.{Task}
 use Rattle.block.specs.Checks.{noTask}
 use Rattle.block.specs.Legal.{Legal}

@@ -1,21 +1,21 @@
 -- THE PROMISE: the proof of both halves, for two blocks and the analysis' own answer and report.
 use Prim.Native.Nat.{ℕ, _+_, _<_}
-use mathlib.Core.Path.{_≡_, refl, sym}
+use mathlib.Core.Path.{_≡_}
 use mathlib.Core.List.{List, _++_}
-use native.Mathlib.Nat.{le-refl}
 use Rattle.block.specs.declared.Task.{Task}
 use Rattle.block.specs.Block.{holds, readingOf}
 use Rattle.block.specs.Legal.{Legal}
 use Rattle.window.specs.Order.{completed, kindOf}
 use Rattle.pair.specs.Analysis.{analyseOf}
 use Rattle.run.specs.Run.{Run, Job, Ended, IsRun}
-use Rattle.run.specs.Promise.{count, task, firstNumber, NotCut, NoAbortedAbove, Reached, Bounds, Promise}
+use Rattle.run.specs.Promise.{count, task, firstNumber, NotCut, NoAbortedAbove, Reached, Promise}
 use Rattle.run.proofs.Tasks.{Sound, sound}
-use Rattle.run.proofs.Levels.{no-loss}
-use Rattle.run.proofs.Within.{Windows, within}
-use Rattle.run.proofs.Rows.{row-windows, row-least}
-use Rattle.run.proofs.Exact.{worstRun, worst-run, worst-job, reached}
-use Rattle.run.proofs.Accepted.{Accepted, accepted}
+use Rattle.run.proofs.Behaviour.Levels.{no-loss}
+use Rattle.run.proofs.Analysis.Windows.{Windows}
+use Rattle.run.proofs.Result.Within.{within}
+use Rattle.run.proofs.Analysis.Rows.{row-windows, row-least}
+use Rattle.run.proofs.Result.Exact.{worstRun, worst-run, worst-job, reached}
+use Rattle.run.proofs.Result.Accepted.{Accepted, accepted}
 
 module _ (reading-legal : (side mode : ℕ) (b : List ℕ) (xs : List Task) → readingOf side b ≡ holds mode xs → Legal side xs) where
   module _ (oldBlock newBlock report : List ℕ) (a : Accepted oldBlock newBlock report) where
@@ -48,7 +48,7 @@ module _ (reading-legal : (side mode : ℕ) (b : List ℕ) (xs : List Task) → 
         let r = a .row i l in
         let v = row-least (a .olds) (a .news) old-legal new-legal i l (r .0) k (r .1) in
         reached n tk G i (v .phase) l (v .some) (number i) k clear (rw (r .2) (v .least))
-        (first-half (worstRun n tk G i (v .phase) l (v .some)) (worst-run n tk G i (v .phase) l (v .some)) i 0 l (worst-job n tk G i (v .phase) l (v .some) k) (rw k tt))
+        (first-half (worstRun n tk i (v .phase)) (worst-run n tk G i (v .phase) l (v .some)) i 0 l (worst-job n tk G i (v .phase) l (v .some) k) (rw k tt))
 
   pub promise : (oldBlock newBlock report : List ℕ) → Promise oldBlock newBlock report
   promise oldBlock newBlock report e =

@@ -1,15 +1,14 @@
 -- What an answer 0 of the analysis gives: both blocks read, every task is timely, and the report holds the rows.
-use Prim.Native.Nat.{ℕ, zero, suc, _+_, _*_, _≤_, _<_}
-use mathlib.Core.Path.{_≡_, refl, sym, ap, _∙_}
+use Prim.Native.Nat.{ℕ, zero, suc, _+_, _*_, _<_}
+use mathlib.Core.Path.{_≡_, refl, ap, _∙_}
 use mathlib.Core.Bool.{Bool, true, false, _&&_, not}
-use mathlib.Core.List.{List, [], _∷_, _++_, flatMap, append-assoc}
-use native.Mathlib.Nat.{le-refl, not-suc-le-zero, mul-suc}
+use mathlib.Core.List.{List, [], _∷_, _++_, flatMap}
+use native.Mathlib.Nat.{not-suc-le-zero}
 use native.Mathlib.Decide.{decLt}
 use native.Mathlib.Omega.{arith}
-use lib.ListN.{length, getD, drop, List·getD-append}
+use lib.ListN.{length, drop}
 use borrow.Author.Tests.{ltb-true}
 use lib.Dec.{ltb}
-use lib.Seq.{getD-append-add}
 use Rattle.base.specs.Lists.{upTo}
 use Rattle.block.specs.declared.Task.{Task}
 use Rattle.block.specs.declared.Answer.{Answer}
@@ -17,8 +16,8 @@ use Rattle.block.specs.declared.Verdict.{Verdict}
 use Rattle.block.specs.declared.Verdict.the-variants.{Passed, Refused}
 use Rattle.block.specs.Record.{allZero}
 use Rattle.block.specs.Answers.{answer, refusal, refuse, firstOf}
-use Rattle.block.specs.Checks.{noTask, taskChecks, recordChecks, doubleCheck}
-use Rattle.block.specs.Block.{Reading, holds, spoilt, reading, readingOf, blockVerdict, countByte, recordPart, tasksIn, headChecks, blockChecks, unusedRoom}
+use Rattle.block.specs.Checks.{recordChecks, doubleCheck}
+use Rattle.block.specs.Block.{Reading, holds, spoilt, reading, readingOf, blockVerdict, countByte, recordPart, tasksIn, blockChecks, unusedRoom}
 use Rattle.rows.specs.declared.Row.{Row}
 use Rattle.rows.specs.declared.Judged.{Judged}
 use Rattle.rows.specs.declared.Judged.the-variants.{Timely, Late}

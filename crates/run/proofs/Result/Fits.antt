@@ -13,11 +13,11 @@ use Rattle.block.specs.declared.Task.{Task}
 use Rattle.window.specs.Order.{Kind, completed, aborted, new, kindOf}
 use Rattle.run.specs.Run.{Slot, idle, job, Run, Ended, Present, Releases}
 use Rattle.run.proofs.Tasks.{Sound, by-kind}
-use Rattle.run.proofs.Counted.{one-release}
-use Rattle.run.proofs.Demands.{overAbove, steadyOld, steadyNew, atPhase, fromRequest, demandOld, demandNew, demandPhase, demandRequest, level-above}
-use Rattle.run.proofs.Accounts.{isTask, served, chosen, left, leftOver, work, OnlyPending, is-pending, stays, balance}
-use Rattle.run.proofs.Levels.{backlog, level, inLevel, keep-le, present-early, by-tasks, quiet-left}
-use Rattle.run.proofs.Shares.{work-split, left-apart, since, whole-in, none-after, none-before, completed-in, new-in, cut-in}
+use Rattle.run.proofs.Analysis.Counted.{one-release}
+use Rattle.run.proofs.Analysis.Demands.{overAbove, steadyOld, steadyNew, atPhase, fromRequest, demandOld, demandNew, demandPhase, demandRequest, level-above}
+use Rattle.run.proofs.Behaviour.Accounts.{isTask, served, chosen, left, leftOver, work, OnlyPending, is-pending, stays, balance}
+use Rattle.run.proofs.Behaviour.Levels.{backlog, level, inLevel, keep-le, present-early, by-tasks, quiet-left}
+use Rattle.run.proofs.Result.Shares.{work-split, left-apart, since, whole-in, none-after, none-before, completed-in, new-in, cut-in}
 
 -- a window no longer than the period holds one job of a task
 old-own : (k : Kind) (a : Task) (t : ℕ) → 0 < a .period → t ≤ a .period → steadyOld k a t ≤ a .execution

@@ -15,7 +15,7 @@ use Rattle.block.specs.declared.Task.{Task}
 use Rattle.window.specs.Order.{Kind, completed, aborted, new, kindOf, rank}
 use Rattle.run.specs.Run.{Slot, idle, job, Run, Job, service, Ended, Present, Pending, AtOrAbove, Schedule}
 use Rattle.run.proofs.Picks.{pick, pick-zero, pick-below, pick-pos}
-use Rattle.run.proofs.Accounts.{isChosen, served, chosen, lost, left, leftOver, OnlyPending, service-suc, service-le, service-rises, stays, chosen-served, fill}
+use Rattle.run.proofs.Behaviour.Accounts.{isChosen, served, chosen, lost, left, leftOver, OnlyPending, service-suc, service-le, service-rises, stays, chosen-served, fill}
 
 -- what of a task is pending at the start of tick t, before its releases: what is left, unless it vanished; and of all chosen tasks
 abbrev pub keep : Kind → ℕ → ℕ → ℕ → ℕ

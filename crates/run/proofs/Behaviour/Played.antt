@@ -13,7 +13,7 @@ use Rattle.block.specs.declared.Task.{Task}
 use Rattle.window.specs.Order.{kindOf, rank}
 use Rattle.run.specs.Run.{Slot, idle, job, Run, runs, service, Pending, MayServe, AtOrAbove, Schedule}
 use Rattle.run.proofs.Tasks.{Sound}
-use Rattle.run.proofs.Levels.{keep, keep-all, keep-pos}
+use Rattle.run.proofs.Behaviour.Levels.{keep, keep-all, keep-pos}
 
 -- ---- the choice among what is pending: p i r is what the job of task i released at r still needs
 
@@ -180,49 +180,45 @@ module _ (n : ℕ) (tk : ℕ → Task) (q : ℕ) (need : ℕ → ℕ → ℕ) wh
   service-hist i r (suc t) = ap (λ (z : ℕ). z + runs (slot (hist t) t) i r) (service-hist i r t)
 
 module _ (n : ℕ) (tk : ℕ → Task) (G : Sound n tk) (q : ℕ) (need : ℕ → ℕ → ℕ) where
+  abbrev R : Run
+  R = play n tk q need
+
+  -- what each job still needs at t, and what t serves: the highest of them, or nothing because nothing needs anything
+  abbrev still : ℕ → ℕ → ℕ → ℕ
+  still t = wants n tk q need (hist n tk q need t) t
+
+  abbrev at : ℕ → Slot
+  at t = best tk (still t) (suc t) n
+
+  abbrev Chosen : ℕ → Type 0
+  Chosen t = ((at t ≡ idle) × Nothing (still t) (suc t) n) ⊎ Top tk (still t) (suc t) n (at t)
+
+  may-serve : (t : ℕ) (σ : Slot) → at t ≡ σ → Chosen t → MayServe n tk R t σ
+  unfolding play
+  may-serve t idle e c = tt
+  may-serve t (job i r) e (inl c) = absurd (let z : _≡_ {A = ℕ} 0 1 = cc in omega arith)
+  may-serve t (job i r) e (inr c) =
+      let ei : c .i ≡ i = cc in
+      let er : c .r ≡ r = cc in
+      let w = keep-pos (kindOf (tk (c .i))) q t (need (c .i) (c .r) - hist n tk q need t (c .i) (c .r)) (c .needs) in
+      let P : Pending tk R (c .i) (c .r) t = record {
+        released = omega (arith, c .in-time);
+        unfinished = omega (arith, service-hist n tk q need (c .i) (c .r) t);
+        present = w .0;
+      } in
+      (omega (arith, c .inside), rw (ei, er) at P)
+
+  needs : (t j s : ℕ) → Pending tk R j s t → 0 < still t j s
+  unfolding play
+  needs t j s P = omega (arith, keep-all (kindOf (tk j)) q t (need j s - hist n tk q need t j s) (P .present), service-hist n tk q need j s t, P .unfinished)
+
+  top : (t j s : ℕ) → j < n → Pending tk R j s t → Chosen t → AtOrAbove tk (at t) j s
+  top t j s l P (inl c) = absurd (omega (arith, c .1 j s l (omega (arith, P .released)), needs t j s P))
+  top t j s l P (inr c) = rw (c .is) (c .tops j s l (omega (arith, P .released)) (needs t j s P))
+
   pub play-schedule : Schedule n tk (play n tk q need)
   unfolding play
   play-schedule = record {
-    pending = λ t. ok t (slot n tk q need (hist n tk q need t) t) refl;
-    highest = λ t j s l P. top t j s l P (best-spec n tk G (wants n tk q need (hist n tk q need t) t) (suc t) n (le-refl n));
+    pending = λ t. may-serve t (at t) refl (best-spec n tk G (still t) (suc t) n (le-refl n));
+    highest = λ t j s l P. top t j s l P (best-spec n tk G (still t) (suc t) n (le-refl n));
   }
-    where
-      R : Run
-      R = play n tk q need
-
-      ok : (t : ℕ) (σ : Slot) → slot n tk q need (hist n tk q need t) t ≡ σ → MayServe n tk R t σ
-      ok t σ e = go σ e (best-spec n tk G (wants n tk q need (hist n tk q need t) t) (suc t) n (le-refl n))
-        where
-          go : (σ : Slot) → slot n tk q need (hist n tk q need t) t ≡ σ
-              → ((slot n tk q need (hist n tk q need t) t ≡ idle) × Nothing (wants n tk q need (hist n tk q need t) t) (suc t) n)
-              ⊎ Top tk (wants n tk q need (hist n tk q need t) t) (suc t) n (slot n tk q need (hist n tk q need t) t)
-              → MayServe n tk R t σ
-          go idle e c = tt
-          go (job i r) e (inl c) = absurd (let z : _≡_ {A = ℕ} 0 1 = cc in omega arith)
-          go (job i r) e (inr c) =
-              let ei : c .i ≡ i = cc in
-              let er : c .r ≡ r = cc in
-              let w = keep-pos (kindOf (tk (c .i))) q t (need (c .i) (c .r) - hist n tk q need t (c .i) (c .r)) (c .needs) in
-              let P : Pending tk R (c .i) (c .r) t = record {
-                released = omega (arith, c .in-time);
-                unfinished = omega (arith, service-hist n tk q need (c .i) (c .r) t);
-                present = w .0;
-              } in
-              (omega (arith, c .inside), rw (ei, er) at P)
-
-      top : (t j s : ℕ) → j < n → Pending tk R j s t
-          → ((slot n tk q need (hist n tk q need t) t ≡ idle) × Nothing (wants n tk q need (hist n tk q need t) t) (suc t) n)
-          ⊎ Top tk (wants n tk q need (hist n tk q need t) t) (suc t) n (slot n tk q need (hist n tk q need t) t)
-          → AtOrAbove tk (R .serve t) j s
-      top t j s l P (inl c) =
-          absurd (omega (
-            arith,
-            c .1 j s l (omega (arith, P .released)),
-            keep-all (kindOf (tk j)) q t (need j s - hist n tk q need t j s) (P .present),
-            service-hist n tk q need j s t,
-            P .unfinished,
-          ))
-      top t j s l P (inr c) =
-          rw (c .is)
-          (c .tops j s l (omega (arith, P .released))
-          (omega (arith, keep-all (kindOf (tk j)) q t (need j s - hist n tk q need t j s) (P .present), service-hist n tk q need j s t, P .unfinished)))

@@ -1,6 +1,6 @@
 -- The accounts of a run: how many ticks each task was served, what it released and what is left, and that these balance.
 use Prim.Native.Nat.{ℕ, zero, suc, _+_, _-_, _≤_, _<_}
-use mathlib.Core.Path.{_≡_, refl, sym, ap, _∙_}
+use mathlib.Core.Path.{_≡_, refl, sym, _∙_}
 use mathlib.Core.Logic.{inl, inr}
 use mathlib.Core.Bool.{Bool, true, false, _&&_}
 use native.Mathlib.Nat.{le-refl, eq-zero-or-pos, not-suc-le-zero}

@@ -11,9 +11,9 @@ use Rattle.window.specs.Order.{Kind, completed, aborted, new, kindOf, rank}
 use Rattle.run.specs.Run.{job, Run, Job, runs, service, Ended, Present, Pending, AtOrAbove, Schedule}
 use Rattle.run.specs.Promise.{NoAbortedAbove}
 use Rattle.run.proofs.Tasks.{Sound}
-use Rattle.run.proofs.Demands.{overAbove, above-le, level-above}
-use Rattle.run.proofs.Accounts.{runs-job, isChosen, chosen-le, served, chosen, left, leftOver, work, service-suc, is-pending, served-jobs, balance, chosen-served}
-use Rattle.run.proofs.Levels.{inLevel}
+use Rattle.run.proofs.Analysis.Demands.{overAbove, above-le, level-above}
+use Rattle.run.proofs.Behaviour.Accounts.{runs-job, isChosen, chosen-le, served, chosen, left, leftOver, work, service-suc, is-pending, served-jobs, balance, chosen-served}
+use Rattle.run.proofs.Behaviour.Levels.{inLevel}
 
 always : (k : Kind) (q t : ℕ) → (k ≡ aborted → ⊥) → Present k q t
 always completed q t h = tt

@@ -1,6 +1,5 @@
 -- A window that closes before the request with jobs cut off has one in it that closes with whole jobs.
 use Prim.Native.Nat.{ℕ, zero, suc, _+_, _-_, _≤_, _<_, min}
-use mathlib.Core.Path.{_≡_}
 use mathlib.Core.Logic.{inl, inr}
 use native.Mathlib.Nat.{le-refl, eq-zero-or-pos, not-suc-le-zero, min-eq-left}
 use native.Mathlib.Omega.{arith}
@@ -10,7 +9,7 @@ use Rattle.block.specs.declared.Task.{Task}
 use Rattle.window.specs.Order.{Kind, completed, aborted, new, kindOf, above}
 use Rattle.run.proofs.Picks.{pick, pick-pos}
 use Rattle.run.proofs.Tasks.{Sound}
-use Rattle.run.proofs.Demands.{overAbove, steadyOld, atPhase, above-le, above-lt, above-add}
+use Rattle.run.proofs.Analysis.Demands.{overAbove, steadyOld, atPhase, above-le, above-lt, above-add}
 
 phase-rises : (k : Kind) (a : Task) (x t : ℕ) → suc t ≤ x → atPhase k a x t ≤ atPhase k a x (suc t)
 phase-rises completed a x t h = jobs-rise (a .period) (a .execution) (min t x) (min (suc t) x) (omega arith)

@@ -1,5 +1,5 @@
 -- The second half of the promise: the request at the phase that gives the window, all tasks of the level released at once and as often as they may.
-use Prim.Native.Nat.{ℕ, zero, suc, _+_, _-_, _≤_, _<_, min}
+use Prim.Native.Nat.{ℕ, _+_, _-_, _≤_, _<_, min}
 use mathlib.Core.Path.{_≡_, refl, ap, _∙_}
 use native.Mathlib.Nat.{le-refl, not-suc-le-zero, zero-mod}
 use native.Mathlib.Decide.{decLt}
@@ -12,15 +12,15 @@ use Rattle.block.specs.declared.Task.{Task}
 use Rattle.window.specs.Order.{Kind, completed, aborted, new, kindOf, rank}
 use Rattle.window.specs.Demand.{jobs}
 use Rattle.run.specs.Run.{Run, Job, service, Ended, MayCome, Releases, Schedule, IsRun}
-use Rattle.run.specs.Promise.{NoAbortedAbove, Takes, Reached}
+use Rattle.run.specs.Promise.{NoAbortedAbove, Reached}
 use Rattle.run.proofs.Picks.{pick, pick-pos, pick-zero, pick-below}
 use Rattle.run.proofs.Tasks.{Sound}
-use Rattle.run.proofs.Counted.{every, every-le, every-apart, every-sum}
-use Rattle.run.proofs.Demands.{atPhase, demandPhase, above-le}
-use Rattle.run.proofs.Accounts.{work, service-le}
-use Rattle.run.proofs.Levels.{inLevel}
-use Rattle.run.proofs.Played.{play, play-schedule}
-use Rattle.run.proofs.Waited.{waited}
+use Rattle.run.proofs.Analysis.Counted.{every, every-le, every-apart, every-sum}
+use Rattle.run.proofs.Analysis.Demands.{atPhase, demandPhase, above-le}
+use Rattle.run.proofs.Behaviour.Accounts.{work, service-le}
+use Rattle.run.proofs.Behaviour.Levels.{inLevel}
+use Rattle.run.proofs.Behaviour.Played.{play, play-schedule}
+use Rattle.run.proofs.Result.Waited.{waited}
 
 -- ---- the worst releases
 
@@ -65,14 +65,19 @@ worst-sum new a x f p h =
     y : ℕ
     y = x + a .offset
 
-module _ (n : ℕ) (tk : ℕ → Task) (G : Sound n tk) (i x : ℕ) (l : i < n) (px : 0 < x) where
+-- the request at x, and these releases of the tasks of i's level
+module _ (n : ℕ) (tk : ℕ → Task) (i x : ℕ) where
   unfoldable pub worstNeed : ℕ → ℕ → ℕ
   worstNeed j r = pick (inLevel tk i j) (worstOf (kindOf (tk j)) (tk j) x r)
 
   unfoldable pub worstRun : Run
   worstRun = play n tk x worstNeed
 
-  worst-releases : Releases n tk worstRun
+module _ (n : ℕ) (tk : ℕ → Task) (G : Sound n tk) (i x : ℕ) (l : i < n) (px : 0 < x) where
+  abbrev R : Run
+  R = worstRun n tk i x
+
+  worst-releases : Releases n tk R
   unfolding worstRun play worstNeed
   worst-releases = record {
     fits = λ j r m. pick-below (inLevel tk i j) (worstOf (kindOf (tk j)) (tk j) x r) (tk j .execution) (worst-fits (kindOf (tk j)) (tk j) x r);
@@ -81,25 +86,25 @@ module _ (n : ℕ) (tk : ℕ → Task) (G : Sound n tk) (i x : ℕ) (l : i < n) 
     comes = λ j r m h. worst-comes (kindOf (tk j)) (tk j) x r (pick-pos (inLevel tk i j) (worstOf (kindOf (tk j)) (tk j) x r) h .1);
   }
 
-  worst-schedule : Schedule n tk worstRun
+  worst-schedule : Schedule n tk R
   unfolding worstRun
-  worst-schedule = play-schedule n tk G x worstNeed
+  worst-schedule = play-schedule n tk G x (worstNeed n tk i x)
 
-  first-job : kindOf (tk i) ≡ completed → worstRun .need i 0 ≡ tk i .execution
+  first-job : kindOf (tk i) ≡ completed → R .need i 0 ≡ tk i .execution
   unfolding worstRun play worstNeed every
   first-job ki = rw (le-leb (rank (tk i)) (rank (tk i)) (le-refl (rank (tk i))), ki, lt-ltb 0 x px, zero-mod (tk i .period))
 
-  above-work : (j f : ℕ) → j < n → rank (tk j) < rank (tk i) → (kindOf (tk j) ≡ aborted → ⊥) → work worstRun j f ≡ atPhase (kindOf (tk j)) (tk j) x f
+  above-work : (j f : ℕ) → j < n → rank (tk j) < rank (tk i) → (kindOf (tk j) ≡ aborted → ⊥) → work R j f ≡ atPhase (kindOf (tk j)) (tk j) x f
   unfolding worstRun play worstNeed work
   above-work j f m h k =
-      sum-eq f (λ r. worstNeed j r) (worstOf (kindOf (tk j)) (tk j) x) (λ r v. rw (le-leb (rank (tk j)) (rank (tk i)) (omega arith)))
+      sum-eq f (λ r. worstNeed n tk i x j r) (worstOf (kindOf (tk j)) (tk j) x) (λ r v. rw (le-leb (rank (tk j)) (rank (tk i)) (omega arith)))
       ∙ worst-sum (kindOf (tk j)) (tk j) x f (G .period j m) k
 
   -- the first job of i ends at no tick before one at which the window closes
-  not-before : kindOf (tk i) ≡ completed → NoAbortedAbove n tk i → (t : ℕ) → Ended worstRun i 0 t
+  not-before : kindOf (tk i) ≡ completed → NoAbortedAbove n tk i → (t : ℕ) → Ended R i 0 t
       → (f : ℕ) × (0 < f) × (f ≤ t) × (demandPhase n tk i x f ≤ f)
   not-before ki clear t e =
-      let w = waited n tk worstRun G worst-schedule i 0 t l clear (omega (arith, first-job ki, G .execution i l)) e in (
+      let w = waited n tk R G worst-schedule i 0 t l clear (omega (arith, first-job ki, G .execution i l)) e in (
         w .0,
         w .1,
         w .2,
@@ -107,30 +112,30 @@ module _ (n : ℕ) (tk : ℕ → Task) (G : Sound n tk) (i x : ℕ) (l : i < n) 
           arith,
           w .3,
           first-job ki,
-          above-le n tk i (λ j. atPhase (kindOf (tk j)) (tk j) x (w .0)) (λ j. work worstRun j (w .0)) (λ j m h. omega (arith, above-work j (w .0) m h (clear j m h))),
+          above-le n tk i (λ j. atPhase (kindOf (tk j)) (tk j) x (w .0)) (λ j. work R j (w .0)) (λ j m h. omega (arith, above-work j (w .0) m h (clear j m h))),
         ),
       )
 
-  pub worst-run : IsRun n tk worstRun
+  pub worst-run : IsRun n tk (worstRun n tk i x)
   worst-run = record { releases = worst-releases; schedule = worst-schedule }
 
-  pub worst-job : kindOf (tk i) ≡ completed → Job worstRun i 0
+  pub worst-job : kindOf (tk i) ≡ completed → Job (worstRun n tk i x) i 0
   worst-job ki = omega (arith, first-job ki, G .execution i l)
 
   -- where that job has ended after the least t that closes, it takes just that
   pub reached : (t : ℕ) → kindOf (tk i) ≡ completed → NoAbortedAbove n tk i → ((u : ℕ) → 0 < u → demandPhase n tk i x u ≤ u → t ≤ u)
-      → Ended worstRun i 0 (0 + t) → Reached n tk i t
+      → Ended (worstRun n tk i x) i 0 (0 + t) → Reached n tk i t
   reached t ki clear least ends = record {
-    run = worstRun;
+    run = R;
     is-run = worst-run;
     release = 0;
     is-job = worst-job ki;
     takes = record {
       ends = ends;
-      not-sooner = λ u h. elim (decLt (service worstRun i 0 (0 + u)) (worstRun .need i 0)) [
+      not-sooner = λ u h. elim (decLt (service R i 0 (0 + u)) (R .need i 0)) [
         | yes d ↦ d
         | no d ↦
-            let f = not-before ki clear (0 + u) (omega (arith, service-le n tk worstRun (worst-schedule .pending) i 0 (0 + u))) in
+            let f = not-before ki clear (0 + u) (omega (arith, service-le n tk R (worst-schedule .pending) i 0 (0 + u))) in
             absurd (omega (arith, least (f .0) (f .1) (f .3)))
       ];
     };

@@ -6,8 +6,8 @@ use native.Mathlib.Omega.{arith}
 use Rattle.base.proofs.Sums.{sum-eq}
 use Rattle.base.proofs.Numbers.{strong}
 use Rattle.block.specs.declared.Task.{Task}
-use Rattle.window.specs.Order.{kindOf, rank}
-use Rattle.run.specs.Run.{Slot, idle, job, Run, runs, service, Present, Pending, MayServe, AtOrAbove, Schedule}
+use Rattle.window.specs.Order.{rank}
+use Rattle.run.specs.Run.{Slot, idle, job, Run, runs, service, Pending, MayServe, AtOrAbove, Schedule}
 
 pub schedule-unique : (n : ℕ) (tk : ℕ → Task) → ((i j : ℕ) → i < n → j < n → rank (tk i) ≡ rank (tk j) → i ≡ j)
     → (R R′ : Run) → R .request ≡ R′ .request → ((i r : ℕ) → R .need i r ≡ R′ .need i r)

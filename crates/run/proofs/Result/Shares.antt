@@ -1,6 +1,6 @@
 -- What one task is served and has left in a window that it enters with nothing left: the work that it can have released since.
 use Prim.Native.Nat.{ℕ, _+_, _-_, _≤_, _<_, min}
-use mathlib.Core.Path.{_≡_, sym, ap, _∙_}
+use mathlib.Core.Path.{_≡_, sym, ap}
 use mathlib.Core.Logic.{inl, inr}
 use native.Mathlib.Nat.{le-refl, eq-zero-or-pos, add-assoc}
 use native.Mathlib.Decide.{decLe}
@@ -12,8 +12,8 @@ use Rattle.window.specs.Order.{completed, new, kindOf}
 use Rattle.window.specs.Demand.{jobs, cut}
 use Rattle.run.specs.Run.{Run, runs, service, MayCome, Releases}
 use Rattle.run.proofs.Tasks.{Sound}
-use Rattle.run.proofs.Counted.{Apart, jobs-most, cut-most}
-use Rattle.run.proofs.Accounts.{runs-le, served, left, leftOver, work, OnlyPending, service-le, service-before, served-jobs, balance}
+use Rattle.run.proofs.Analysis.Counted.{Apart, jobs-most, cut-most}
+use Rattle.run.proofs.Behaviour.Accounts.{runs-le, served, left, leftOver, work, OnlyPending, service-le, service-before, served-jobs, balance}
 
 module _ (n : ℕ) (tk : ℕ → Task) (R : Run) (G : Sound n tk) (L : Releases n tk R) (S : OnlyPending n tk R) where
   -- ---- one task

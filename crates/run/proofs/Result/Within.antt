@@ -1,8 +1,8 @@
 -- The first half of the promise, from windows that close, least or not: every job that is not cut off ends within its task's bound.
 -- A job of task i may lose up to B i ticks to tasks below it.
 use Prim.Native.Nat.{ℕ, _+_, _-_, _≤_, _<_, min}
-use mathlib.Core.Path.{_≡_, refl, ap}
-use mathlib.Core.Logic.{_⊎_, inl, inr}
+use mathlib.Core.Path.{_≡_, ap}
+use mathlib.Core.Logic.{inl, inr}
 use native.Mathlib.Nat.{le-refl, eq-zero-or-pos}
 use native.Mathlib.Decide.{decLt, decLe}
 use native.Mathlib.Omega.{arith}
@@ -12,47 +12,12 @@ use Rattle.window.specs.Demand.{jobs, cut}
 use Rattle.run.specs.Run.{Run, Job, Ended, MayCome, Releases}
 use Rattle.run.specs.Promise.{NotCut}
 use Rattle.run.proofs.Tasks.{Sound, by-kind}
-use Rattle.run.proofs.Demands.{atPhase, demandOld, demandNew, demandPhase, demandRequest, above-le}
-use Rattle.run.proofs.Whole.{to-whole}
-use Rattle.run.proofs.Accounts.{OnlyPending, service-le, stays}
-use Rattle.run.proofs.Levels.{LastQuiet, Budget, present-early, start, closes}
-use Rattle.run.proofs.Fits.{before, past, after, onward}
-
--- ---- windows that close, by kind
-
--- the demand at t, with K ticks lost, is at most t
-pub record Closes (demand : ℕ → ℕ) (K t : ℕ) : Type 0 where
-  pub some : 0 < t
-  pub closed : demand t + K ≤ t
-
--- one for each phase
-pub record CompletedWindows (n : ℕ) (tk : ℕ → Task) (K i bound : ℕ) : Type 0 where
-  pub window : ℕ → ℕ
-  pub closing : (x : ℕ) → 0 < x → x ≤ tk i .deadline → Closes (demandPhase n tk i x) K (window x)
-  pub most : (x : ℕ) → 0 < x → x ≤ tk i .deadline → window x ≤ bound
-  pub timely : bound ≤ tk i .deadline
-
--- the steady one
-pub record AbortedWindow (n : ℕ) (tk : ℕ → Task) (K i bound : ℕ) : Type 0 where
-  pub window : ℕ
-  pub closing : Closes (demandOld n tk i) K window
-  pub most : window ≤ bound
-  pub timely : bound ≤ tk i .deadline
-
--- the steady one, and the one from the request
-pub record NewWindows (n : ℕ) (tk : ℕ → Task) (K i bound : ℕ) : Type 0 where
-  pub steady : ℕ
-  pub onward : ℕ
-  pub steady-closing : Closes (demandNew n tk i) K steady
-  pub onward-closing : Closes (demandRequest n tk i) K onward
-  pub steady-most : steady ≤ bound
-  pub onward-most : onward ≤ tk i .offset + bound
-  pub timely : bound ≤ tk i .deadline
-
-abbrev pub Windows : Kind → (n : ℕ) → (ℕ → Task) → ℕ → ℕ → ℕ → Type 0
-Windows completed n tk K i bound = CompletedWindows n tk K i bound
-Windows aborted n tk K i bound = AbortedWindow n tk K i bound
-Windows new n tk K i bound = NewWindows n tk K i bound
+use Rattle.run.proofs.Analysis.Demands.{atPhase, demandPhase, above-le}
+use Rattle.run.proofs.Analysis.Windows.{Closes, CompletedWindows, Windows}
+use Rattle.run.proofs.Analysis.Whole.{to-whole}
+use Rattle.run.proofs.Behaviour.Accounts.{OnlyPending, service-le, stays}
+use Rattle.run.proofs.Behaviour.Levels.{LastQuiet, Budget, present-early, start, closes}
+use Rattle.run.proofs.Result.Fits.{before, past, after, onward}
 
 module _ (n : ℕ) (tk : ℕ → Task) (G : Sound n tk) (B bound : ℕ → ℕ) (windows : (i : ℕ) → i < n → Windows (kindOf (tk i)) n tk (B i) i (bound i)) where
   pub windows-of : (k : Kind) (i : ℕ) → i < n → kindOf (tk i) ≡ k → Windows k n tk (B i) i (bound i)

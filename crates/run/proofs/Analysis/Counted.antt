@@ -1,9 +1,8 @@
 -- What releases at least T ticks apart, of at most C ticks each, bring into a window: whole jobs, and jobs cut off at its end. Releases every T ticks bring just that.
-use Prim.Native.Nat.{ℕ, zero, suc, _+_, _-_, _*_, _/_, _%_, _≤_, _<_, min}
+use Prim.Native.Nat.{ℕ, zero, suc, _+_, _-_, _*_, _%_, _≤_, _<_, min}
 use mathlib.Core.Path.{_≡_, sym, ap, _∙_}
 use mathlib.Core.Logic.{inl, inr}
-use mathlib.Core.Bool.{Bool, true, false}
-use native.Mathlib.Nat.{le-refl, add-assoc, zero-add, eq-zero-or-pos, suc-mul, add-div-left, add-mod, add-mod-left, div-eq-of-lt, mod-eq-of-lt, le-min}
+use native.Mathlib.Nat.{le-refl, add-assoc, zero-add, eq-zero-or-pos, add-div-left, add-mod, add-mod-left, div-eq-of-lt, mod-eq-of-lt, le-min}
 use native.Mathlib.Decide.{decLt, decLe}
 use native.Mathlib.Omega.{arith}
 use borrow.Author.Tests.{eqb-true, ne-eqb}
@@ -12,7 +11,7 @@ use lib.Dec.{eqb}
 use Rattle.base.specs.Sums.{sum}
 use Rattle.base.specs.Numbers.{ceil, jobsIn, cutIn}
 use Rattle.base.proofs.Sums.{sum-eq, sum-zero, sum-split}
-use Rattle.base.proofs.Numbers.{strong, ceil-add, ceil-one, digits, Digits, jobs-none, jobs-whole, jobs-begun}
+use Rattle.base.proofs.Numbers.{strong, ceil-add, ceil-one, digits, jobs-none, jobs-whole, jobs-begun}
 use Rattle.run.proofs.Picks.{pick, pick-pos, pick-below}
 
 abbrev pub Apart : ℕ → (ℕ → ℕ) → Type 0
