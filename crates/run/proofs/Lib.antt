@@ -4,3 +4,4 @@ pub mod Tasks
 pub mod Behaviour
 pub mod Analysis
 pub mod Result
+mod Cases

@@ -48,10 +48,10 @@ one-bears xs differ i j l h e =
 
 module _ (olds news : List Task) where
   -- the places of the two lists
-  pub old-place : (i : ℕ) → i < length olds → task (olds ++ news) i ≡ task olds i
+  old-place : (i : ℕ) → i < length olds → task (olds ++ news) i ≡ task olds i
   old-place i l = List·getD-append olds news noTask i l
 
-  pub new-place : (i : ℕ) → task (olds ++ news) (length olds + i) ≡ task news i
+  new-place : (i : ℕ) → task (olds ++ news) (length olds + i) ≡ task news i
   new-place i = getD-append-add olds news i noTask
 
   -- what holds of each old task and of each new one holds at every place

@@ -13,13 +13,13 @@ use Rattle.run.specs.Run.{Run, Job, service, Ended, IsRun}
 
 -- ---- the tasks and the numbers
 
--- the tasks of two blocks, old ones in block order and then new ones
-abbrev pub tasksIn : Reading → List Task
-tasksIn (holds mode xs) = xs
-tasksIn (spoilt a) = []
+-- the tasks of two blocks that read, old ones in block order and then new ones
+abbrev pub heldIn : Reading → List Task
+heldIn (holds mode xs) = xs
+heldIn (spoilt a) = []
 
 abbrev pub tasksHeld : List ℕ → List ℕ → List Task
-tasksHeld oldBlock newBlock = tasksIn (readingOf 0 oldBlock) ++ tasksIn (readingOf 1 newBlock)
+tasksHeld oldBlock newBlock = heldIn (readingOf 0 oldBlock) ++ heldIn (readingOf 1 newBlock)
 
 -- how many, and which stands at place i
 abbrev pub count : List Task → ℕ

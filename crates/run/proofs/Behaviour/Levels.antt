@@ -62,7 +62,7 @@ present-early completed q t h = tt
 present-early aborted q t h = h
 present-early new q t h = tt
 
-pub present-before : (k : Kind) (q t t′ : ℕ) → t′ ≤ t → Present k q t → Present k q t′
+present-before : (k : Kind) (q t t′ : ℕ) → t′ ≤ t → Present k q t → Present k q t′
 present-before completed q t t′ l h = tt
 present-before aborted q t t′ l h = omega arith
 present-before new q t t′ l h = tt
@@ -74,7 +74,7 @@ keep-pos new q t x h = (tt, h)
 
 module _ (n : ℕ) (tk : ℕ → Task) (R : Run) (S : OnlyPending n tk R) where
   -- what is pending after a tick, of what was released before or at it, was pending in it
-  pub was-pending : (i t : ℕ) → 0 < backlog tk R i (suc t) → (r : ℕ) × Pending tk R i r t
+  was-pending : (i t : ℕ) → 0 < backlog tk R i (suc t) → (r : ℕ) × Pending tk R i r t
   unfolding backlog leftOver
   was-pending i t h =
       let k = keep-pos (kindOf (tk i)) (R .request) (suc t) (leftOver R i (suc t)) h in
@@ -113,12 +113,12 @@ module _ (n : ℕ) (tk : ℕ → Task) (R : Run) (S : OnlyPending n tk R) where
       let g = sum-ge n (λ i. pick (p i) (backlog tk R i t)) i l in
       omega (arith, rw h at g, keep-all (kindOf (tk i)) (R .request) t (leftOver R i t) k)
 
-  pub ended : (i r u : ℕ) → r < u → leftOver R i u ≡ 0 → Ended R i r u
+  ended : (i r u : ℕ) → r < u → leftOver R i u ≡ 0 → Ended R i r u
   unfolding leftOver
   ended i r u h z = omega (arith, service-le n tk R S i r u, sum-ge u (λ r. left R i r u) r h)
 
   -- nothing is pending before the first tick
-  pub level-zero : (p : ℕ → Bool) → level n tk R p 0 ≡ 0
+  level-zero : (p : ℕ → Bool) → level n tk R p 0 ≡ 0
   unfolding level backlog leftOver sum
   level-zero p = sum-zero n (λ i. pick (p i) (backlog tk R i 0)) (λ i l. pick-zero (p i) (backlog tk R i 0) (omega (arith, keep-le (kindOf (tk i)) (R .request) 0 0)))
 
@@ -176,7 +176,7 @@ module _ (n : ℕ) (tk : ℕ → Task) (R : Run) (S : Schedule n tk R) where
   level-top (job k r) i j s a h = rw (le-leb (rank (tk k)) (rank (tk i)) (omega (arith, leb-true (rank (tk j)) (rank (tk i)) h)))
 
   -- a tick after which something of the level is pending serves the level
-  pub busy : (i t : ℕ) → 0 < level n tk R (inLevel tk i) (suc t) → isChosen (inLevel tk i) (R .serve t) ≡ 1
+  busy : (i t : ℕ) → 0 < level n tk R (inLevel tk i) (suc t) → isChosen (inLevel tk i) (R .serve t) ≡ 1
   unfolding level
   busy i t h =
       let p = sum-pos n (λ j. pick (inLevel tk i j) (backlog tk R j (suc t))) h in

@@ -17,38 +17,43 @@ use Rattle.run.proofs.Behaviour.Levels.{keep, keep-all, keep-pos}
 
 -- ---- the choice among what is pending: p i r is what the job of task i released at r still needs
 
+-- the slot, where there is a need
 abbrev pub test : ℕ → Slot → Slot
 test zero σ = idle
 test (suc x) σ = σ
 
+-- the second slot, where the first is idle
 abbrev pub orElse : Slot → Slot → Slot
 orElse idle τ = τ
 orElse (job i r) τ = job i r
 
+-- the earliest of task i's jobs released before m that needs something
 unfoldable pub earliest : ℕ → (ℕ → ℕ) → ℕ → Slot
 earliest i p zero = idle
 earliest i p (suc m) = orElse (earliest i p m) (test (p m) (job i m))
 
+-- the higher of two slots
 abbrev pub better : (ℕ → Task) → Slot → Slot → Slot
 better tk idle τ = τ
 better tk (job i r) idle = job i r
 better tk (job i r) (job j s) = cond (leb (rank (tk i)) (rank (tk j))) (job i r) (job j s)
 
+-- the highest of the first k tasks' jobs
 unfoldable pub best : (ℕ → Task) → (ℕ → ℕ → ℕ) → ℕ → ℕ → Slot
 best tk p m zero = idle
 best tk p m (suc k) = better tk (best tk p m k) (earliest k (p k) m)
 
-pub record First (i : ℕ) (p : ℕ → ℕ) (m : ℕ) (σ : Slot) : Type 0 where
+record First (i : ℕ) (p : ℕ → ℕ) (m : ℕ) (σ : Slot) : Type 0 where
   pub r : ℕ
   pub in-time : r < m
   pub is : σ ≡ job i r
   pub needs : 0 < p r
   pub none : (s : ℕ) → s < m → 0 < p s → r ≤ s
 
-pub earliest-spec : (i : ℕ) (p : ℕ → ℕ) (m : ℕ) → ((earliest i p m ≡ idle) × ((s : ℕ) → s < m → p s ≡ 0)) ⊎ First i p m (earliest i p m)
+earliest-is : (i : ℕ) (p : ℕ → ℕ) (m : ℕ) → ((earliest i p m ≡ idle) × ((s : ℕ) → s < m → p s ≡ 0)) ⊎ First i p m (earliest i p m)
 unfolding earliest
-earliest-spec i p zero = inl (refl, λ s l. absurd (not-suc-le-zero l))
-earliest-spec i p (suc m) = go (earliest i p m) (p m) refl (earliest-spec i p m)
+earliest-is i p zero = inl (refl, λ s l. absurd (not-suc-le-zero l))
+earliest-is i p (suc m) = go (earliest i p m) (p m) refl (earliest-is i p m)
   where
     go : (σ : Slot) (x : ℕ) → p m ≡ x → ((σ ≡ idle) × ((s : ℕ) → s < m → p s ≡ 0)) ⊎ First i p m σ
         → ((orElse σ (test x (job i m)) ≡ idle) × ((s : ℕ) → s < suc m → p s ≡ 0)) ⊎ First i p (suc m) (orElse σ (test x (job i m)))
@@ -80,23 +85,23 @@ earliest-spec i p (suc m) = go (earliest i p m) (p m) refl (earliest-spec i p m)
       ];
     })
 
-pub record Top (tk : ℕ → Task) (p : ℕ → ℕ → ℕ) (m k : ℕ) (σ : Slot) : Type 0 where
+record Top (tk : ℕ → Task) (p : ℕ → ℕ → ℕ) (m k : ℕ) (σ : Slot) : Type 0 where
   pub i : ℕ
   pub r : ℕ
   pub inside : i < k
   pub in-time : r < m
   pub is : σ ≡ job i r
   pub needs : 0 < p i r
-  pub tops : (j s : ℕ) → j < k → s < m → 0 < p j s → (rank (tk i) ≤ rank (tk j)) × (rank (tk j) ≤ rank (tk i) → r ≤ s)
+  pub tops : (j s : ℕ) → j < k → s < m → 0 < p j s → AtOrAbove tk (job i r) j s
 
-abbrev pub Nothing : (p : ℕ → ℕ → ℕ) (m k : ℕ) → Type 0
+abbrev Nothing : (p : ℕ → ℕ → ℕ) (m k : ℕ) → Type 0
 Nothing p m k = (j s : ℕ) → j < k → s < m → p j s ≡ 0
 
-pub best-spec : (n : ℕ) (tk : ℕ → Task) → Sound n tk → (p : ℕ → ℕ → ℕ) (m k : ℕ) → k ≤ n
+best-is : (n : ℕ) (tk : ℕ → Task) → Sound n tk → (p : ℕ → ℕ → ℕ) (m k : ℕ) → k ≤ n
     → ((best tk p m k ≡ idle) × Nothing p m k) ⊎ Top tk p m k (best tk p m k)
 unfolding best
-best-spec n tk G p m zero h = inl (refl, λ j s l. absurd (not-suc-le-zero l))
-best-spec n tk G p m (suc k) h = go (best tk p m k) (earliest k (p k) m) (best-spec n tk G p m k (omega arith)) (earliest-spec k (p k) m)
+best-is n tk G p m zero h = inl (refl, λ j s l. absurd (not-suc-le-zero l))
+best-is n tk G p m (suc k) h = go (best tk p m k) (earliest k (p k) m) (best-is n tk G p m k (omega arith)) (earliest-is k (p k) m)
   where
     -- a job of one of the first k tasks, or of the k-th
     split : {P : ℕ → ℕ → Type 0} → ((j s : ℕ) → j < k → s < m → P j s) → ((s : ℕ) → s < m → P k s) → (j s : ℕ) → j < suc k → s < m → P j s
@@ -116,7 +121,7 @@ best-spec n tk G p m (suc k) h = go (best tk p m k) (earliest k (p k) m) (best-s
       in-time = b .in-time;
       is = rw (a .0, b .is);
       needs = b .needs;
-      tops = split {P = λ j s. 0 < p j s → (rank (tk k) ≤ rank (tk j)) × (rank (tk j) ≤ rank (tk k) → b .r ≤ s)}
+      tops = split {P = λ j s. 0 < p j s → AtOrAbove tk (job k (b .r)) j s}
           (λ j s l v q. absurd (omega (arith, a .1 j s l v)))
           (λ s v q. (le-refl (rank (tk k)), λ e. b .none s v q));
     })
@@ -127,7 +132,7 @@ best-spec n tk G p m (suc k) h = go (best tk p m k) (earliest k (p k) m) (best-s
       in-time = a .in-time;
       is = rw (a .is, b .0);
       needs = a .needs;
-      tops = split {P = λ j s. 0 < p j s → (rank (tk (a .i)) ≤ rank (tk j)) × (rank (tk j) ≤ rank (tk (a .i)) → a .r ≤ s)}
+      tops = split {P = λ j s. 0 < p j s → AtOrAbove tk (job (a .i) (a .r)) j s}
           (a .tops)
           (λ s v q. absurd (omega (arith, b .1 s v)));
     })
@@ -140,7 +145,7 @@ best-spec n tk G p m (suc k) h = go (best tk p m k) (earliest k (p k) m) (best-s
             in-time = a .in-time;
             is = rw (a .is, b .is) (rw (le-leb (rank (tk (a .i))) (rank (tk k)) d));
             needs = a .needs;
-            tops = split {P = λ j s. 0 < p j s → (rank (tk (a .i)) ≤ rank (tk j)) × (rank (tk j) ≤ rank (tk (a .i)) → a .r ≤ s)}
+            tops = split {P = λ j s. 0 < p j s → AtOrAbove tk (job (a .i) (a .r)) j s}
                 (a .tops)
                 (λ s v q. (d, λ e. absurd (omega (arith, a .inside, G .ranks (a .i) k (omega (arith, a .inside)) h (le-antisymm d e)))));
           })
@@ -151,7 +156,7 @@ best-spec n tk G p m (suc k) h = go (best tk p m k) (earliest k (p k) m) (best-s
             in-time = b .in-time;
             is = rw (a .is, b .is) (rw (lt-leb (rank (tk (a .i))) (rank (tk k)) (omega arith)));
             needs = b .needs;
-            tops = split {P = λ j s. 0 < p j s → (rank (tk k) ≤ rank (tk j)) × (rank (tk j) ≤ rank (tk k) → b .r ≤ s)}
+            tops = split {P = λ j s. 0 < p j s → AtOrAbove tk (job k (b .r)) j s}
                 (λ j s l v q. (omega (arith, a .tops j s l v q .0), λ e. absurd (omega (arith, a .tops j s l v q .0))))
                 (λ s v q. (le-refl (rank (tk k)), λ e. b .none s v q));
           })
@@ -164,9 +169,11 @@ module _ (n : ℕ) (tk : ℕ → Task) (q : ℕ) (need : ℕ → ℕ → ℕ) wh
   abbrev pub wants : (ℕ → ℕ → ℕ) → ℕ → ℕ → ℕ → ℕ
   wants h t i r = keep (kindOf (tk i)) q t (need i r - h i r)
 
+  -- what tick t then serves
   abbrev pub slot : (ℕ → ℕ → ℕ) → ℕ → Slot
   slot h t = best tk (wants h t) (suc t) n
 
+  -- what each job was served before t
   unfoldable pub hist : ℕ → ℕ → ℕ → ℕ
   hist zero = λ i r. 0
   hist (suc t) = let h = hist t in λ i r. h i r + runs (slot h t) i r
@@ -174,7 +181,7 @@ module _ (n : ℕ) (tk : ℕ → Task) (q : ℕ) (need : ℕ → ℕ → ℕ) wh
   unfoldable pub play : Run
   play = record { request = q; need = need; serve = λ t. slot (hist t) t }
 
-  pub service-hist : (i r t : ℕ) → service play i r t ≡ hist t i r
+  service-hist : (i r t : ℕ) → service play i r t ≡ hist t i r
   unfolding service sum hist play
   service-hist i r zero = refl
   service-hist i r (suc t) = ap (λ (z : ℕ). z + runs (slot (hist t) t) i r) (service-hist i r t)
@@ -219,6 +226,6 @@ module _ (n : ℕ) (tk : ℕ → Task) (G : Sound n tk) (q : ℕ) (need : ℕ �
   pub play-schedule : Schedule n tk (play n tk q need)
   unfolding play
   play-schedule = record {
-    pending = λ t. may-serve t (at t) refl (best-spec n tk G (still t) (suc t) n (le-refl n));
-    highest = λ t j s l P. top t j s l P (best-spec n tk G (still t) (suc t) n (le-refl n));
+    pending = λ t. may-serve t (at t) refl (best-is n tk G (still t) (suc t) n (le-refl n));
+    highest = λ t j s l P. top t j s l P (best-is n tk G (still t) (suc t) n (le-refl n));
   }

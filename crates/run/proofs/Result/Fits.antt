@@ -133,7 +133,7 @@ module _ (n : ℕ) (tk : ℕ → Task) (R : Run) (G : Sound n tk) (L : Releases 
           omega (arith, whole-in n tk R G L S j s t m y, pend-le j (s + t)))
 
   -- at the request a completed task whose jobs end within its period has at most one job pending
-  pub one-left : (j : ℕ) → j < n → ((r : ℕ) → Ended R j r (r + tk j .period)) → (q : ℕ) → leftOver R j q ≤ tk j .execution
+  one-left : (j : ℕ) → j < n → ((r : ℕ) → Ended R j r (r + tk j .period)) → (q : ℕ) → leftOver R j q ≤ tk j .execution
   unfolding leftOver
   one-left j m h q =
       elim (decLe q (tk j .period)) [

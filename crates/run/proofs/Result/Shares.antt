@@ -25,7 +25,7 @@ module _ (n : ℕ) (tk : ℕ → Task) (R : Run) (G : Sound n tk) (L : Releases 
   pub left-apart : (i t : ℕ) → i < n → Apart (tk i .period) (λ r. left R i r t)
   left-apart i t l r d p z m = omega (arith, L .apart i r d l (omega arith) z m)
 
-  pub need-apart : (i : ℕ) → i < n → Apart (tk i .period) (λ r. R .need i r)
+  need-apart : (i : ℕ) → i < n → Apart (tk i .period) (λ r. R .need i r)
   need-apart i l r d p z m = L .apart i r d l p z m
 
   -- where nothing is left at a, what a task is served and has left is what it released since

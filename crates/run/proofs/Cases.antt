@@ -1,0 +1,103 @@
+-- Small runs by computation: what the definitions give for cases a, f, g and h of the paper.
+use Prim.Native.Nat.{ℕ, _+_}
+use mathlib.Core.Path.{_≡_, refl}
+use mathlib.Core.Bool.{cond}
+use mathlib.Core.List.{List, [], _∷_, _++_}
+use lib.Dec.{eqb}
+use Rattle.base.specs.Lists.{upTo}
+use Rattle.base.specs.Sums.{sum, sumOf}
+use Rattle.base.specs.Numbers.{ceil, jobsIn, cutIn}
+use Rattle.base.specs.Search.{firstWhere, windowOf}
+use Rattle.block.specs.declared.Task.{Task}
+use Rattle.window.specs.Order.{rank}
+use Rattle.window.specs.Demand.{sumAbove, steadyDemand, phaseDemand}
+use Rattle.window.specs.Worst.{takeOf, nextOf, sweep}
+use Rattle.rows.specs.declared.Judged.the-variants.{Timely}
+use Rattle.rows.specs.Row.{row, rowOf}
+use Rattle.run.specs.Run.{Slot, idle, job, Run, service}
+use Rattle.run.specs.Promise.{task}
+use Rattle.run.proofs.Analysis.Counted.{every}
+use Rattle.run.proofs.Behaviour.Played.{earliest, best, hist, play}
+use Rattle.run.proofs.Result.Exact.{worstNeed, worstRun}
+
+-- kind, number, T, D, C, priority, Y
+abbrev made : ℕ → ℕ → ℕ → ℕ → ℕ → ℕ → ℕ → Task
+made k number T D C p Y = record { kind = k; priority = p; number = number; period = T; deadline = D; execution = C; offset = Y }
+
+-- what the first ticks serve
+abbrev ticks : Run → ℕ → List Slot
+ticks R t = upTo (R .serve) t
+
+-- ---- case a: number 2 stands at place 1, and its row has phase 1
+
+abbrev a-old : List Task
+a-old = made 0 1 10 10 2 1 0 ∷ made 0 2 20 20 4 3 0 ∷ []
+
+abbrev a-new : List Task
+a-new = made 2 10 10 8 3 2 0 ∷ made 2 20 20 20 5 4 4 ∷ []
+
+abbrev a-run : Run
+a-run = worstRun 4 (task (a-old ++ a-new)) 1 1
+
+a-row : rowOf a-old a-new (task a-old 1) ≡ Timely (row 9 1 6)
+unfolding rowOf sweep nextOf takeOf windowOf firstWhere steadyDemand phaseDemand sumAbove sumOf jobsIn cutIn ceil rank
+a-row = refl
+
+a-ticks : ticks a-run 10 ≡ job 0 0 ∷ job 0 0 ∷ job 2 1 ∷ job 2 1 ∷ job 2 1 ∷ job 1 0 ∷ job 1 0 ∷ job 1 0 ∷ job 1 0 ∷ idle ∷ []
+unfolding upTo worstRun worstNeed play hist best earliest every rank
+a-ticks = refl
+
+-- it ends at 9 and not at 8
+a-ends : (service a-run 1 0 8 ≡ 3) × (service a-run 1 0 9 ≡ 4)
+unfolding service sum worstRun worstNeed play hist best earliest every rank
+a-ends = (refl, refl)
+
+-- ---- case f: the completed task stands at place 1 under an aborted one, and its row has phase 4
+
+abbrev f-old : List Task
+f-old = made 1 1 10 10 4 1 0 ∷ made 0 2 20 20 4 3 0 ∷ []
+
+f-row : rowOf f-old [] (task f-old 1) ≡ Timely (row 8 4 8)
+unfolding rowOf sweep nextOf takeOf windowOf firstWhere steadyDemand phaseDemand sumAbove sumOf jobsIn cutIn ceil rank
+f-row = refl
+
+-- in the run of the proof aborted tasks release nothing: there the job ends at 4, and the promise claims no more of this task
+f-ends : (service (worstRun 2 (task f-old) 1 4) 1 0 3 ≡ 3) × (service (worstRun 2 (task f-old) 1 4) 1 0 4 ≡ 4)
+unfolding service sum worstRun worstNeed play hist best earliest every rank
+f-ends = (refl, refl)
+
+-- with the aborted task released at 0 too its 8 is reached
+f-need : ℕ → ℕ → ℕ
+f-need i r = cond (eqb r 0) 4 0
+
+f-reached : (service (play 2 (task f-old) 4 f-need) 1 0 7 ≡ 3) × (service (play 2 (task f-old) 4 f-need) 1 0 8 ≡ 4)
+unfolding service sum play hist best earliest rank f-need
+f-reached = (refl, refl)
+
+-- ---- case g: two aborted tasks above, the row has 20 at phase 14; all released as often as they may, the job ends at 16
+
+abbrev g-old : List Task
+g-old = made 1 1 10 10 4 1 0 ∷ made 1 2 10 10 4 2 0 ∷ made 0 3 20 20 4 3 0 ∷ []
+
+g-row : rowOf g-old [] (task g-old 2) ≡ Timely (row 20 14 20)
+unfolding rowOf sweep nextOf takeOf windowOf firstWhere steadyDemand phaseDemand sumAbove sumOf jobsIn cutIn ceil rank
+g-row = refl
+
+g-need : ℕ → ℕ → ℕ
+g-need i r = every (task g-old i .period) 4 r
+
+g-ends : (service (play 3 (task g-old) 14 g-need) 2 0 15 ≡ 3) × (service (play 3 (task g-old) 14 g-need) 2 0 16 ≡ 4)
+unfolding service sum play hist best earliest rank g-need every
+g-ends = (refl, refl)
+
+-- ---- case h: at equal priorities the old job, released at 0, goes on when the new one comes at 1
+
+abbrev h-tasks : List Task
+h-tasks = made 0 1 10 10 2 5 0 ∷ made 2 2 10 10 3 5 0 ∷ []
+
+h-need : ℕ → ℕ → ℕ
+h-need i r = cond (eqb i r) (i + 2) 0
+
+h-ticks : ticks (play 2 (task h-tasks) 1 h-need) 6 ≡ job 0 0 ∷ job 0 0 ∷ job 1 1 ∷ job 1 1 ∷ job 1 1 ∷ idle ∷ []
+unfolding upTo play hist best earliest rank h-need
+h-ticks = refl
