@@ -28,9 +28,12 @@ count tasks = length tasks
 abbrev pub task : List Task → ℕ → Task
 task tasks i = getD tasks i noTask
 
--- the first number of row i of a report
+-- where the first number of row i stands in a report, and the number there
+abbrev pub firstPlace : ℕ → ℕ
+firstPlace i = rowSize * i
+
 abbrev pub firstNumber : List ℕ → ℕ → ℕ
-firstNumber report i = getD report (rowSize * i) 0
+firstNumber report i = getD report (firstPlace i) 0
 
 -- ---- what is said of a job
 

@@ -1,5 +1,5 @@
 -- A timely row: its first number bounds windows that close, and for a completed task it is the least window at one of the phases.
-use Prim.Native.Nat.{ℕ, _+_, _-_, _<_, max}
+use Prim.Native.Nat.{ℕ, _+_, _-_, _≤_, _<_, max}
 use mathlib.Core.Path.{_≡_, refl, ap}
 use mathlib.Core.List.{List, _++_}
 use mathlib.Core.Option.{Option, none, some}
@@ -54,19 +54,22 @@ module _ (olds news : List Task) (old-legal : Legal 0 olds) (new-legal : Legal 1
     at : (x t : ℕ) → phaseWindow olds news (tk i) x ≡ some t → Window (phaseDemand olds news (tk i) x) (tk i .deadline) t
     at x t e = window-found (phaseDemand olds news (tk i) x) (tk i .deadline) t e
 
-    -- some phase has a window, so the worst is one too
+    -- there is a first phase, and it has a window, so the worst is one too
+    some-phase : 1 ≤ tk i .deadline
+    some-phase = omega (arith, G .execution i l, G .in-deadline i l)
+
     worst-some : 0 < s .window
     worst-some =
-        let f = w .found 1 (le-refl 1) (omega (arith, G .execution i l, G .in-deadline i l)) in
+        let f = w .found 1 (le-refl 1) some-phase in
         omega (arith, at 1 (f .0) (f .1) .first, f .2)
 
     completed-windows : CompletedWindows n tk 0 i (s .window)
     completed-windows = record {
       window = λ x. orZero (phaseWindow olds news (tk i) x);
       closing = λ x p h.
-          let f = w .found x p h in
+          let f = w .found x p (omega (arith, some-phase)) in
           rw (f .1) (closing (phaseDemand olds news (tk i) x) (demandPhase n tk i x) (tk i .deadline) (f .0) (λ u. at-phase olds news old-legal new-legal i u x) (f .1));
-      most = λ x p h. let f = w .found x p h in rw (f .1) (f .2);
+      most = λ x p h. let f = w .found x p (omega (arith, some-phase)) in rw (f .1) (omega (arith, f .2));
       timely = let v = w .gives worst-some in at (s .phase) (s .window) (v .2) .within;
     }
 
@@ -77,7 +80,7 @@ module _ (olds news : List Task) (old-legal : Legal 0 olds) (new-legal : Legal 1
           phase = s .phase;
           some = v .0;
           least = λ u p c. elim (decLe (s .window) u) [
-            | yes h ↦ h
+            | yes h ↦ omega arith
             | no h ↦ absurd (omega (arith, at (s .phase) (s .window) (v .2) .unmet u p (omega arith), at-phase olds news old-legal new-legal i u (s .phase)))
           ];
         }

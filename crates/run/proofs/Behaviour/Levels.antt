@@ -6,7 +6,7 @@ use mathlib.Core.Bool.{Bool, true, false}
 use native.Mathlib.Nat.{le-refl}
 use native.Mathlib.Decide.{decLt, decLe}
 use native.Mathlib.Omega.{arith}
-use borrow.Author.Tests.{leb-true, le-leb}
+use borrow.Author.Tests.{ltb-true, leb-true, lt-ltb, le-leb}
 use lib.Dec.{leb, ltb}
 use Rattle.base.specs.Sums.{sum}
 use Rattle.base.proofs.Sums.{sum-le, sum-eq, sum-zero, sum-split, sum-pos, sum-add, sum-ge}
@@ -54,7 +54,7 @@ keep-le new q t x = omega arith
 
 pub keep-all : (k : Kind) (q t x : ℕ) → Present k q t → keep k q t x ≡ x
 keep-all completed q t x h = refl
-keep-all aborted q t x h = rw (le-leb (suc t) q h)
+keep-all aborted q t x h = rw (lt-ltb t q (omega arith))
 keep-all new q t x h = refl
 
 pub present-early : (k : Kind) (q t : ℕ) → t < q → Present k q t
@@ -69,7 +69,7 @@ present-before new q t t′ l h = tt
 
 pub keep-pos : (k : Kind) (q t x : ℕ) → 0 < keep k q t x → Present k q t × (0 < x)
 keep-pos completed q t x h = (tt, h)
-keep-pos aborted q t x h = let p = pick-pos (ltb t q) x h in (leb-true (suc t) q (p .0), p .1)
+keep-pos aborted q t x h = let p = pick-pos (ltb t q) x h in (ltb-true t q (p .0), p .1)
 keep-pos new q t x h = (tt, h)
 
 module _ (n : ℕ) (tk : ℕ → Task) (R : Run) (S : OnlyPending n tk R) where

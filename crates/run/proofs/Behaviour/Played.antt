@@ -123,7 +123,7 @@ best-is n tk G p m (suc k) h = go (best tk p m k) (earliest k (p k) m) (best-is 
       needs = b .needs;
       tops = split {P = λ j s. 0 < p j s → AtOrAbove tk (job k (b .r)) j s}
           (λ j s l v q. absurd (omega (arith, a .1 j s l v)))
-          (λ s v q. (le-refl (rank (tk k)), λ e. b .none s v q));
+          (λ s v q. (le-refl (rank (tk k)), λ e. omega (arith, b .none s v q)));
     })
     go σ τ (inr a) (inl b) = inr (record {
       i = a .i;
@@ -158,7 +158,7 @@ best-is n tk G p m (suc k) h = go (best tk p m k) (earliest k (p k) m) (best-is 
             needs = b .needs;
             tops = split {P = λ j s. 0 < p j s → AtOrAbove tk (job k (b .r)) j s}
                 (λ j s l v q. (omega (arith, a .tops j s l v q .0), λ e. absurd (omega (arith, a .tops j s l v q .0))))
-                (λ s v q. (le-refl (rank (tk k)), λ e. b .none s v q));
+                (λ s v q. (le-refl (rank (tk k)), λ e. omega (arith, b .none s v q)));
           })
         ]
 

@@ -24,7 +24,7 @@ use Rattle.rows.specs.declared.Judged.the-variants.{Timely, Late}
 use Rattle.rows.specs.Row.{rowOf}
 use Rattle.rows.specs.Rows.{rowSize, rowNumbers, rowsOf, lateCheck, lateChecks}
 use Rattle.pair.specs.Analysis.{pairChecks, settled, judged, analyseOf}
-use Rattle.run.specs.Promise.{count, task, firstNumber}
+use Rattle.run.specs.Promise.{count, task, firstPlace, firstNumber}
 use Rattle.run.proofs.Tasks.{by-side}
 
 -- ---- the first check that refuses
@@ -165,7 +165,7 @@ all-timely olds news room e =
     new-check k = lateCheck 10 1 k (rowOf olds news (task news k))
 
 next-row : (a b c : ℕ) (l : List ℕ) (i : ℕ) → firstNumber (a ∷ b ∷ c ∷ l) (suc i) ≡ firstNumber l i
-next-row a b c l i = let z : rowSize * suc i ≡ suc (suc (suc (rowSize * i))) = omega arith in rw z
+next-row a b c l i = let z : firstPlace (suc i) ≡ suc (suc (suc (firstPlace i))) = omega arith in rw z
 
 -- row i of a list of rows, whatever stands behind them
 row-at : (f : Task → Judged) (xs : List Task) (rest : List ℕ) (i : ℕ) (r : Row) → i < length xs → f (task xs i) ≡ Timely r

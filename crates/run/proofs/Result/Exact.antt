@@ -45,9 +45,9 @@ worst-apart new a x r d h p l =
     pick-zero (leb (x + a .offset) (r + d)) (every (a .period) (a .execution) (r + d - (x + a .offset))) (rw e (every-apart (a .period) (a .execution) (r - (x + a .offset)) d (g .1) p l))
 
 worst-comes : (k : Kind) (a : Task) (x r : ℕ) → 0 < worstOf k a x r → MayCome k x (a .offset) r
-worst-comes completed a x r h = ltb-true r x (pick-pos (ltb r x) (every (a .period) (a .execution) r) h .0)
+worst-comes completed a x r h = omega (arith, ltb-true r x (pick-pos (ltb r x) (every (a .period) (a .execution) r) h .0))
 worst-comes aborted a x r h = absurd (not-suc-le-zero h)
-worst-comes new a x r h = leb-true (x + a .offset) r (pick-pos (leb (x + a .offset) r) (every (a .period) (a .execution) (r - (x + a .offset))) h .0)
+worst-comes new a x r h = omega (arith, leb-true (x + a .offset) r (pick-pos (leb (x + a .offset) r) (every (a .period) (a .execution) (r - (x + a .offset))) h .0))
 
 -- they release what the demand counts
 worst-sum : (k : Kind) (a : Task) (x f : ℕ) → 0 < a .period → (k ≡ aborted → ⊥) → sum f (worstOf k a x) ≡ atPhase k a x f
@@ -80,9 +80,9 @@ module _ (n : ℕ) (tk : ℕ → Task) (G : Sound n tk) (i x : ℕ) (l : i < n) 
   worst-releases : Releases n tk R
   unfolding worstRun play worstNeed
   worst-releases = record {
-    fits = λ j r m. pick-below (inLevel tk i j) (worstOf (kindOf (tk j)) (tk j) x r) (tk j .execution) (worst-fits (kindOf (tk j)) (tk j) x r);
+    fits = λ j r m. omega (arith, pick-below (inLevel tk i j) (worstOf (kindOf (tk j)) (tk j) x r) (tk j .execution) (worst-fits (kindOf (tk j)) (tk j) x r));
     apart = λ j r d m h p v. pick-zero (inLevel tk i j) (worstOf (kindOf (tk j)) (tk j) x (r + d))
-        (worst-apart (kindOf (tk j)) (tk j) x r d (pick-pos (inLevel tk i j) (worstOf (kindOf (tk j)) (tk j) x r) h .1) p v);
+        (worst-apart (kindOf (tk j)) (tk j) x r d (pick-pos (inLevel tk i j) (worstOf (kindOf (tk j)) (tk j) x r) h .1) p (omega arith));
     comes = λ j r m h. worst-comes (kindOf (tk j)) (tk j) x r (pick-pos (inLevel tk i j) (worstOf (kindOf (tk j)) (tk j) x r) h .1);
   }
 

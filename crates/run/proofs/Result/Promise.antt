@@ -2,6 +2,7 @@
 use Prim.Native.Nat.{ℕ, _+_, _<_}
 use mathlib.Core.Path.{_≡_}
 use mathlib.Core.List.{List, _++_}
+use native.Mathlib.Omega.{arith}
 use Rattle.block.specs.declared.Task.{Task}
 use Rattle.block.specs.Block.{holds, readingOf}
 use Rattle.block.specs.Legal.{Legal}
@@ -47,7 +48,7 @@ module _ (reading-legal : (side mode : ℕ) (b : List ℕ) (xs : List Task) → 
     second-half i l k clear =
         let r = a .row i l in
         let v = row-least (a .olds) (a .news) old-legal new-legal i l (r .0) k (r .1) in
-        reached n tk G i (v .phase) l (v .some) (number i) k clear (rw (r .2) (v .least))
+        reached n tk G i (v .phase) l (v .some) (number i) k clear (λ u p c. omega (arith, r .2, v .least u p c))
         (first-half (worstRun n tk i (v .phase)) (worst-run n tk G i (v .phase) l (v .some)) i 0 l (worst-job n tk G i (v .phase) l (v .some) k) (rw k tt))
 
   pub promise : (oldBlock newBlock report : List ℕ) → Promise oldBlock newBlock report

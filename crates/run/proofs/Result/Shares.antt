@@ -23,10 +23,10 @@ module _ (n : ℕ) (tk : ℕ → Task) (R : Run) (G : Sound n tk) (L : Releases 
   work-split i a t = sum-split a t (λ r. R .need i r)
 
   pub left-apart : (i t : ℕ) → i < n → Apart (tk i .period) (λ r. left R i r t)
-  left-apart i t l r d p z m = omega (arith, L .apart i r d l (omega arith) z m)
+  left-apart i t l r d p z m = omega (arith, L .apart i r d l (omega arith) z (omega arith))
 
   need-apart : (i : ℕ) → i < n → Apart (tk i .period) (λ r. R .need i r)
-  need-apart i l r d p z m = L .apart i r d l p z m
+  need-apart i l r d p z m = L .apart i r d l p z (omega arith)
 
   -- where nothing is left at a, what a task is served and has left is what it released since
   pub since : (i a t : ℕ) → leftOver R i a ≡ 0 → served R i (a + t) + leftOver R i (a + t) ≡ served R i a + sum t (λ u. R .need i (a + u))
@@ -35,7 +35,7 @@ module _ (n : ℕ) (tk : ℕ → Task) (R : Run) (G : Sound n tk) (L : Releases 
   -- of any task
   pub whole-in : (i a t : ℕ) → i < n → leftOver R i a ≡ 0 → served R i (a + t) + leftOver R i (a + t) ≤ served R i a + jobs (tk i) t
   whole-in i a t l z =
-      omega (arith, since i a t z, jobs-most (tk i .period) (tk i .execution) (R .need i) (G .period i l) (need-apart i l) (λ r. L .fits i r l) t a)
+      omega (arith, since i a t z, jobs-most (tk i .period) (tk i .execution) (R .need i) (G .period i l) (need-apart i l) (λ r. omega (arith, L .fits i r l)) t a)
 
   -- nothing of a completed task from the request on, nothing of a new one before its offset
   pub none-after : (i : ℕ) → kindOf (tk i) ≡ completed → i < n → (r : ℕ) → R .request ≤ r → R .need i r ≡ 0
@@ -64,7 +64,7 @@ module _ (n : ℕ) (tk : ℕ → Task) (R : Run) (G : Sound n tk) (L : Releases 
         arith,
         since i a t z,
         sum-cut t x (λ u. R .need i (a + u)) (λ u h. none-after i e l (a + u) (omega arith)),
-        jobs-most (tk i .period) (tk i .execution) (R .need i) (G .period i l) (need-apart i l) (λ r. L .fits i r l) (min t x) a,
+        jobs-most (tk i .period) (tk i .execution) (R .need i) (G .period i l) (need-apart i l) (λ r. omega (arith, L .fits i r l)) (min t x) a,
       )
 
   -- of a new task
@@ -78,7 +78,7 @@ module _ (n : ℕ) (tk : ℕ → Task) (R : Run) (G : Sound n tk) (L : Releases 
         since i a t z,
         sum-late t (x + tk i .offset) (λ u. R .need i (a + u)) (λ u h. none-before i e l (a + u) (omega arith)),
         sum-eq (t - (x + tk i .offset)) (λ k. R .need i (a + (x + tk i .offset + k))) (λ k. R .need i (a + (x + tk i .offset) + k)) (λ k h. ap (R .need i) (sym (add-assoc a (x + tk i .offset) k))),
-        jobs-most (tk i .period) (tk i .execution) (R .need i) (G .period i l) (need-apart i l) (λ r. L .fits i r l) (t - (x + tk i .offset)) (a + (x + tk i .offset)),
+        jobs-most (tk i .period) (tk i .execution) (R .need i) (G .period i l) (need-apart i l) (λ r. omega (arith, L .fits i r l)) (t - (x + tk i .offset)) (a + (x + tk i .offset)),
       )
 
   -- of any task: what it is served in m ticks, where its last job may be cut off
@@ -107,6 +107,6 @@ module _ (n : ℕ) (tk : ℕ → Task) (R : Run) (G : Sound n tk) (L : Releases 
         sum-le a (λ r. service R i r (a + m)) (λ r. R .need i r) (λ r h. service-le n tk R S i r (a + m)),
         balance n tk R S i a,
         cut-most (tk i .period) (tk i .execution) (G .period i l) m (λ r. service R i r (a + m)) a
-            (λ r d p y h. omega (arith, service-le n tk R S i r (a + m), service-le n tk R S i (r + d) (a + m), L .apart i r d l (omega (arith, service-le n tk R S i r (a + m))) y h))
+            (λ r d p y h. omega (arith, service-le n tk R S i r (a + m), service-le n tk R S i (r + d) (a + m), L .apart i r d l (omega (arith, service-le n tk R S i r (a + m))) y (omega arith)))
             (λ u h. (omega (arith, service-le n tk R S i (a + u) (a + m), L .fits i (a + u) l), in-time i a m u)),
       )

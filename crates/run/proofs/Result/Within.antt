@@ -51,7 +51,7 @@ module _ (n : ℕ) (tk : ℕ → Task) (G : Sound n tk) (B bound : ℕ → ℕ) 
         x = R .request - s
 
         early : r < R .request
-        early = let m : MayCome completed (R .request) (tk i .offset) r = rw e at (L .comes i r l p) in m
+        early = let m : MayCome completed (R .request) (tk i .offset) r = rw e at (L .comes i r l p) in omega arith
 
         px : 0 < x
         px = omega (arith, early, st .1 .early)
