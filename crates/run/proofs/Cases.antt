@@ -1,23 +1,29 @@
 -- Small runs by computation: what the definitions give for cases a, f, g and h of the paper.
-use Prim.Native.Nat.{ℕ, _+_}
+use Prim.Native.Nat.{ℕ, zero, suc, _+_, _≤_, _<_}
 use mathlib.Core.Path.{_≡_, refl}
+use mathlib.Core.Logic.{inl, inr}
 use mathlib.Core.Bool.{cond}
 use mathlib.Core.List.{List, [], _∷_, _++_}
+use native.Mathlib.Nat.{le-refl, eq-zero-or-pos}
+use native.Mathlib.Omega.{arith}
+use borrow.Author.Tests.{eqb-true}
 use lib.Dec.{eqb}
 use Rattle.base.specs.Lists.{upTo}
 use Rattle.base.specs.Sums.{sum, sumOf}
 use Rattle.base.specs.Numbers.{ceil, jobsIn, cutIn}
 use Rattle.base.specs.Search.{firstWhere, windowOf}
 use Rattle.block.specs.declared.Task.{Task}
-use Rattle.window.specs.Order.{rank}
+use Rattle.window.specs.Order.{aborted, kindOf, rank}
 use Rattle.window.specs.Demand.{sumAbove, steadyDemand, phaseDemand}
 use Rattle.window.specs.Worst.{takeOf, nextOf, sweep}
 use Rattle.rows.specs.declared.Judged.the-variants.{Timely}
 use Rattle.rows.specs.Row.{row, rowOf}
-use Rattle.run.specs.Run.{Slot, idle, job, Run, service}
-use Rattle.run.specs.Promise.{task}
+use Rattle.run.specs.Run.{Slot, idle, job, Run, service, MayCome, IsRun}
+use Rattle.run.specs.Promise.{task, NotCut}
+use Rattle.run.proofs.Picks.{pick-pos, pick-below}
+use Rattle.run.proofs.Tasks.{Sound}
 use Rattle.run.proofs.Analysis.Counted.{every}
-use Rattle.run.proofs.Behaviour.Played.{earliest, best, hist, play}
+use Rattle.run.proofs.Behaviour.Played.{earliest, best, hist, play, play-schedule}
 use Rattle.run.proofs.Result.Exact.{worstNeed, worstRun}
 
 -- kind, number, T, D, C, priority, Y
@@ -66,13 +72,66 @@ f-ends : (service (worstRun 2 (task f-old) 1 4) 1 0 3 ≡ 3) × (service (worstR
 unfolding service sum worstRun worstNeed play hist best earliest every rank
 f-ends = (refl, refl)
 
--- with the aborted task released at 0 too its 8 is reached
+-- both tasks released at 0 with 4 ticks each, the request at q
 f-need : ℕ → ℕ → ℕ
 f-need i r = cond (eqb r 0) 4 0
 
-f-reached : (service (play 2 (task f-old) 4 f-need) 1 0 7 ≡ 3) × (service (play 2 (task f-old) 4 f-need) 1 0 8 ≡ 4)
+abbrev f-play : ℕ → Run
+f-play q = play 2 (task f-old) q f-need
+
+-- that is a run for any q from 1 on
+at-two : (P : ℕ → Type 0) → P 0 → P 1 → (i : ℕ) → i < 2 → P i
+at-two P a b zero l = a
+at-two P a b (suc zero) l = b
+at-two P a b (suc (suc i)) l = absurd (omega arith)
+
+f-ranks : (i : ℕ) → i < 2 → (j : ℕ) → j < 2 → rank (task f-old i) ≡ rank (task f-old j) → i ≡ j
+unfolding rank
+f-ranks =
+    at-two (λ i. (j : ℕ) → j < 2 → rank (task f-old i) ≡ rank (task f-old j) → i ≡ j)
+    (at-two (λ j. rank (task f-old 0) ≡ rank (task f-old j) → 0 ≡ j) (λ e. refl) (λ e. absurd (omega arith)))
+    (at-two (λ j. rank (task f-old 1) ≡ rank (task f-old j) → 1 ≡ j) (λ e. absurd (omega arith)) (λ e. refl))
+
+f-sound : Sound 2 (task f-old)
+f-sound = record {
+  period = at-two (λ i. 0 < task f-old i .period) (omega arith) (omega arith);
+  execution = at-two (λ i. 0 < task f-old i .execution) (omega arith) (omega arith);
+  in-deadline = at-two (λ i. task f-old i .execution ≤ task f-old i .deadline) (omega arith) (omega arith);
+  in-period = at-two (λ i. task f-old i .deadline ≤ task f-old i .period) (omega arith) (omega arith);
+  ranks = λ i j l h e. f-ranks i l j h e;
+}
+
+f-once : (i r : ℕ) → 0 < f-need i r → r ≡ 0
+unfolding f-need
+f-once i r h = eqb-true r 0 (pick-pos (eqb r 0) 4 h .0)
+
+f-fits : (i r : ℕ) → f-need i r ≤ 4
+unfolding f-need
+f-fits i r = pick-below (eqb r 0) 4 4 (le-refl 4)
+
+f-run : (q : ℕ) → 0 < q → IsRun 2 (task f-old) (f-play q)
+unfolding play
+f-run q p = record {
+  releases = record {
+    fits = λ i r. at-two (λ i. f-need i r ≤ task f-old i .execution) (f-fits 0 r) (f-fits 1 r) i;
+    apart = λ i r d l h e v. elim (eq-zero-or-pos (f-need i (r + d))) [
+      | inl z ↦ z
+      | inr z ↦ absurd (omega (arith, f-once i (r + d) z))
+    ];
+    comes = λ i r l h. at-two (λ i. r ≡ 0 → MayCome (kindOf (task f-old i)) q (task f-old i .offset) r) (λ z. omega arith) (λ z. omega arith) i l (f-once i r h);
+  };
+  schedule = play-schedule 2 (task f-old) f-sound q f-need;
+}
+
+-- with the request at 4 the aborted job has just ended, and the other's 8 is reached
+f-reached : NotCut aborted (f-play 4) 0 0 × (service (f-play 4) 1 0 7 ≡ 3) × (service (f-play 4) 1 0 8 ≡ 4)
 unfolding service sum play hist best earliest rank f-need
-f-reached = (refl, refl)
+f-reached = (refl, refl, refl)
+
+-- with the request at 1 it is cut off after a tick, and the other job ends at 5
+f-cut : ticks (f-play 1) 6 ≡ job 0 0 ∷ job 1 0 ∷ job 1 0 ∷ job 1 0 ∷ job 1 0 ∷ idle ∷ []
+unfolding upTo play hist best earliest rank f-need
+f-cut = refl
 
 -- ---- case g: two aborted tasks above, the row has 20 at phase 14; all released as often as they may, the job ends at 16
 

@@ -1,11 +1,15 @@
--- A number that counts where a test passes: its laws, alone and in a sum.
+-- Tests: two at once, and a number that counts where one passes, alone and in a sum.
 use Prim.Native.Nat.{ℕ, _+_, _≤_, _<_}
 use mathlib.Core.Path.{_≡_, refl, sym}
-use mathlib.Core.Bool.{Bool, true, false, cond}
+use mathlib.Core.Bool.{Bool, true, false, cond, _&&_}
 use native.Mathlib.Nat.{not-suc-le-zero}
 use native.Mathlib.Omega.{arith}
 use Rattle.base.specs.Sums.{sum}
 use Rattle.base.proofs.Sums.{sum-zero}
+
+pub both : (b c : Bool) → b && c ≡ true → (b ≡ true) × (c ≡ true)
+both true c e = (refl, e)
+both false c e = (e, cc)
 
 abbrev pub pick : Bool → ℕ → ℕ
 pick b x = cond b x 0

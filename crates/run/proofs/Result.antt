@@ -4,5 +4,6 @@ pub mod Fits
 pub mod Within
 pub mod Waited
 pub mod Exact
+pub mod Verdicts
 pub mod Accepted
 pub mod Promise

@@ -59,7 +59,7 @@ keep-all new q t x h = refl
 
 pub present-early : (k : Kind) (q t : ℕ) → t < q → Present k q t
 present-early completed q t h = tt
-present-early aborted q t h = h
+present-early aborted q t h = omega arith
 present-early new q t h = tt
 
 present-before : (k : Kind) (q t t′ : ℕ) → t′ ≤ t → Present k q t → Present k q t′
@@ -69,7 +69,7 @@ present-before new q t t′ l h = tt
 
 pub keep-pos : (k : Kind) (q t x : ℕ) → 0 < keep k q t x → Present k q t × (0 < x)
 keep-pos completed q t x h = (tt, h)
-keep-pos aborted q t x h = let p = pick-pos (ltb t q) x h in (ltb-true t q (p .0), p .1)
+keep-pos aborted q t x h = let p = pick-pos (ltb t q) x h in (omega (arith, ltb-true t q (p .0)), p .1)
 keep-pos new q t x h = (tt, h)
 
 module _ (n : ℕ) (tk : ℕ → Task) (R : Run) (S : OnlyPending n tk R) where

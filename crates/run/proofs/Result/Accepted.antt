@@ -1,10 +1,9 @@
 -- What an answer 0 of the analysis gives: both blocks read, every task is timely, and the report holds the rows.
 use Prim.Native.Nat.{ℕ, zero, suc, _+_, _*_, _<_}
-use mathlib.Core.Path.{_≡_, refl, ap, _∙_}
-use mathlib.Core.Bool.{Bool, true, false, _&&_, not}
+use mathlib.Core.Path.{_≡_, refl, _∙_}
+use mathlib.Core.Bool.{true, not}
 use mathlib.Core.List.{List, [], _∷_, _++_, flatMap}
 use native.Mathlib.Nat.{not-suc-le-zero}
-use native.Mathlib.Decide.{decLt}
 use native.Mathlib.Omega.{arith}
 use lib.ListN.{length, drop}
 use borrow.Author.Tests.{ltb-true}
@@ -26,67 +25,7 @@ use Rattle.rows.specs.Rows.{rowSize, rowNumbers, rowsOf, lateCheck, lateChecks}
 use Rattle.pair.specs.Analysis.{pairChecks, settled, judged, analyseOf}
 use Rattle.run.specs.Promise.{count, task, firstPlace, firstNumber}
 use Rattle.run.proofs.Tasks.{by-side}
-
--- ---- the first check that refuses
-
--- a refusal has a code other than 0
-coded : Verdict → Bool
-coded Passed = true
-coded (Refused a) = ltb 0 (a .code)
-
-refuse-coded : (b : Bool) (a : Answer) → ltb 0 (a .code) ≡ true → coded (refuse b a) ≡ true
-unfolding coded
-refuse-coded true a h = h
-refuse-coded false a h = refl
-
-both : (b c : Bool) → b && c ≡ true → (b ≡ true) × (c ≡ true)
-both true c e = (refl, e)
-both false c e = (e, cc)
-
--- every refusal of a list has, and so the first one
-each-coded : List Verdict → Bool
-each-coded [] = true
-each-coded (v ∷ vs) = coded v && each-coded vs
-
-coded-append : (xs ys : List Verdict) → each-coded xs ≡ true → each-coded ys ≡ true → each-coded (xs ++ ys) ≡ true
-unfolding each-coded
-coded-append [] ys c d = d
-coded-append (v ∷ xs) ys c d = let h = both (coded v) (each-coded xs) c in rw (h .0) (coded-append xs ys (h .1) d)
-
-coded-each : (f : ℕ → Verdict) (n : ℕ) → ((k : ℕ) → coded (f k) ≡ true) → each-coded (upTo f n) ≡ true
-unfolding each-coded upTo
-coded-each f zero h = refl
-coded-each f (suc n) h = coded-append (upTo f n) (f n ∷ []) (coded-each f n h) (rw (h n))
-
-first-coded : (vs : List Verdict) → each-coded vs ≡ true → coded (firstOf vs) ≡ true
-unfolding each-coded coded firstOf
-first-coded [] c = refl
-first-coded (Passed ∷ vs) c = first-coded vs c
-first-coded (Refused a ∷ vs) c = both (coded (Refused a)) (each-coded vs) c .0
-
-refused-passed : {a : Answer} → Refused a ≡ Passed → ⊥
-refused-passed e = let z : _≡_ {A = ℕ} 0 1 = cc in omega arith
-
-passed-append : (xs ys : List Verdict) → firstOf (xs ++ ys) ≡ Passed → (firstOf xs ≡ Passed) × (firstOf ys ≡ Passed)
-unfolding firstOf
-passed-append [] ys e = (refl, e)
-passed-append (Passed ∷ xs) ys e = passed-append xs ys e
-passed-append (Refused a ∷ xs) ys e = absurd (refused-passed e)
-
-passed-cons : (v : Verdict) (vs : List Verdict) → firstOf (v ∷ vs) ≡ Passed → (v ≡ Passed) × (firstOf vs ≡ Passed)
-unfolding firstOf
-passed-cons Passed vs e = (refl, e)
-passed-cons (Refused a) vs e = absurd (refused-passed e)
-
-passed-each : (f : ℕ → Verdict) (n : ℕ) → firstOf (upTo f n) ≡ Passed → (k : ℕ) → k < n → f k ≡ Passed
-unfolding upTo
-passed-each f zero e k l = absurd (not-suc-le-zero l)
-passed-each f (suc n) e k l =
-    let p = passed-append (upTo f n) (f n ∷ []) e in
-    elim (decLt k n) [
-      | yes h ↦ passed-each f n (p .0) k h
-      | no h ↦ let z : k ≡ n = omega arith in ap f z ∙ passed-cons (f n) [] (p .1) .0
-    ]
+use Rattle.run.proofs.Result.Verdicts.{coded, each-coded, refuse-coded, coded-append, coded-each, first-coded, refused-passed, passed-append, passed-cons, passed-each}
 
 -- ---- a block that does not read
 
@@ -122,47 +61,41 @@ spoilt-code side b a e = go (blockVerdict side b) (block-coded side b) e
     go Passed c f = absurd (let z : _≡_ {A = ℕ} 0 1 = cc in omega arith)
     go (Refused a′) c f = let z : a′ ≡ a = cc in ltb-true 0 (a .code) (rw z at c)
 
--- ---- a pair that is not settled
+-- ---- a pair
 
 late-coded : (code side k : ℕ) (j : Judged) → ltb 0 code ≡ true → coded (lateCheck code side k j) ≡ true
 unfolding coded
 late-coded code side k (Timely r) h = refl
 late-coded code side k (Late d) h = h
 
-pair-coded : (olds news : List Task) (room : ℕ) → coded (firstOf (pairChecks olds news room)) ≡ true
-unfolding each-coded
-pair-coded olds news room =
-    first-coded (pairChecks olds news room) (simp refuse-coded
-    (coded-append (upTo old-check (length olds)) (upTo new-check (length news))
-    (coded-each old-check (length olds) (λ k. late-coded 9 0 k (rowOf olds news (task olds k)) refl))
-    (coded-each new-check (length news) (λ k. late-coded 10 1 k (rowOf olds news (task news k)) refl))))
-  where
-    old-check : ℕ → Verdict
-    old-check k = lateCheck 9 0 k (rowOf olds news (task olds k))
-
-    new-check : ℕ → Verdict
-    new-check k = lateCheck 10 1 k (rowOf olds news (task news k))
-
--- ---- a pair that is
-
 timely : (code side k : ℕ) (j : Judged) → lateCheck code side k j ≡ Passed → (r : Row) × (j ≡ Timely r)
 timely code side k (Timely r) e = (r, refl)
 timely code side k (Late d) e = absurd (refused-passed e)
 
-all-timely : (olds news : List Task) (room : ℕ) → firstOf (pairChecks olds news room) ≡ Passed
-    → (i : ℕ) → i < count (olds ++ news) → (r : Row) × (rowOf olds news (task (olds ++ news) i) ≡ Timely r)
-all-timely olds news room e =
-    let late = passed-cons (refuse (ltb room (rowSize * (length olds + length news))) (answer 8 2 0 0)) (lateChecks olds news) e .1 in
-    let each = passed-append (upTo old-check (length olds)) (upTo new-check (length news)) late in
-    by-side olds news (λ x. (r : Row) × (rowOf olds news x ≡ Timely r))
-    (λ k l. timely 9 0 k (rowOf olds news (task olds k)) (passed-each old-check (length olds) (each .0) k l))
-    (λ k l. timely 10 1 k (rowOf olds news (task news k)) (passed-each new-check (length news) (each .1) k l))
-  where
-    old-check : ℕ → Verdict
-    old-check k = lateCheck 9 0 k (rowOf olds news (task olds k))
+module _ (olds news : List Task) where
+  old-check : ℕ → Verdict
+  old-check k = lateCheck 9 0 k (rowOf olds news (task olds k))
 
-    new-check : ℕ → Verdict
-    new-check k = lateCheck 10 1 k (rowOf olds news (task news k))
+  new-check : ℕ → Verdict
+  new-check k = lateCheck 10 1 k (rowOf olds news (task news k))
+
+  pair-coded : (room : ℕ) → coded (firstOf (pairChecks olds news room)) ≡ true
+  unfolding each-coded old-check new-check
+  pair-coded room =
+      first-coded (pairChecks olds news room) (simp refuse-coded
+      (coded-append (upTo old-check (length olds)) (upTo new-check (length news))
+      (coded-each old-check (length olds) (λ k. late-coded 9 0 k (rowOf olds news (task olds k)) refl))
+      (coded-each new-check (length news) (λ k. late-coded 10 1 k (rowOf olds news (task news k)) refl))))
+
+  all-timely : (room : ℕ) → firstOf (pairChecks olds news room) ≡ Passed
+      → (i : ℕ) → i < count (olds ++ news) → (r : Row) × (rowOf olds news (task (olds ++ news) i) ≡ Timely r)
+  unfolding old-check new-check
+  all-timely room e =
+      let late = passed-cons (refuse (ltb room (rowSize * (length olds + length news))) (answer 8 2 0 0)) (lateChecks olds news) e .1 in
+      let each = passed-append (upTo old-check (length olds)) (upTo new-check (length news)) late in
+      by-side olds news (λ x. (r : Row) × (rowOf olds news x ≡ Timely r))
+      (λ k l. timely 9 0 k (rowOf olds news (task olds k)) (passed-each old-check (length olds) (each .0) k l))
+      (λ k l. timely 10 1 k (rowOf olds news (task news k)) (passed-each new-check (length news) (each .1) k l))
 
 next-row : (a b c : ℕ) (l : List ℕ) (i : ℕ) → firstNumber (a ∷ b ∷ c ∷ l) (suc i) ≡ firstNumber l i
 next-row a b c l i = let z : firstPlace (suc i) ≡ suc (suc (suc (firstPlace i))) = omega arith in rw z
