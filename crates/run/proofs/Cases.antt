@@ -13,13 +13,13 @@ use Rattle.base.specs.Sums.{sum, sumOf}
 use Rattle.base.specs.Numbers.{ceil, jobsIn, cutIn}
 use Rattle.base.specs.Search.{firstWhere, windowOf}
 use Rattle.block.specs.declared.Task.{Task}
-use Rattle.window.specs.Order.{aborted, kindOf, rank}
+use Rattle.window.specs.Order.{completed, aborted, new, kindOf, rank}
 use Rattle.window.specs.Demand.{sumAbove, steadyDemand, phaseDemand}
 use Rattle.window.specs.Worst.{takeOf, nextOf, sweep}
 use Rattle.rows.specs.declared.Judged.the-variants.{Timely}
 use Rattle.rows.specs.Row.{row, rowOf}
 use Rattle.run.specs.Run.{Slot, idle, job, Run, service, MayCome, IsRun}
-use Rattle.run.specs.Promise.{task, NotCut}
+use Rattle.run.specs.Promise.{task, NotCut, Takes}
 use Rattle.run.proofs.Picks.{pick-pos, pick-below}
 use Rattle.run.proofs.Tasks.{Sound}
 use Rattle.run.proofs.Analysis.Counted.{every}
@@ -57,6 +57,20 @@ a-ticks = refl
 a-ends : (service a-run 1 0 8 ≡ 3) × (service a-run 1 0 9 ≡ 4)
 unfolding service sum worstRun worstNeed play hist best earliest every rank
 a-ends = (refl, refl)
+
+-- so it takes neither 10 nor 8
+a-not-more : Takes a-run 1 0 10 → ⊥
+unfolding service sum worstRun worstNeed play hist best earliest every rank
+a-not-more k = omega (arith, k .not-sooner 9 (omega arith))
+
+a-not-less : Takes a-run 1 0 8 → ⊥
+unfolding service sum worstRun worstNeed play hist best earliest every rank
+a-not-less k = omega (arith, k .ends)
+
+-- ---- only aborted jobs can be cut off
+
+others-whole : (R : Run) (i r : ℕ) → NotCut completed R i r × NotCut new R i r
+others-whole R i r = (tt, tt)
 
 -- ---- case f: the completed task stands at place 1 under an aborted one, and its row has phase 4
 

@@ -82,8 +82,8 @@ module _ (n : ℕ) (tk : ℕ → Task) (G : Sound n tk) (i x : ℕ) (l : i < n) 
   worst-releases = record {
     fits = λ j r m. omega (arith, pick-below (inLevel tk i j) (worstOf (kindOf (tk j)) (tk j) x r) (tk j .execution) (worst-fits (kindOf (tk j)) (tk j) x r));
     apart = λ j r d m h p v. pick-zero (inLevel tk i j) (worstOf (kindOf (tk j)) (tk j) x (r + d))
-        (worst-apart (kindOf (tk j)) (tk j) x r d (pick-pos (inLevel tk i j) (worstOf (kindOf (tk j)) (tk j) x r) h .1) p (omega arith));
-    comes = λ j r m h. worst-comes (kindOf (tk j)) (tk j) x r (pick-pos (inLevel tk i j) (worstOf (kindOf (tk j)) (tk j) x r) h .1);
+        (worst-apart (kindOf (tk j)) (tk j) x r d (pick-pos (inLevel tk i j) (worstOf (kindOf (tk j)) (tk j) x r) (omega arith) .1) p (omega arith));
+    comes = λ j r m h. worst-comes (kindOf (tk j)) (tk j) x r (pick-pos (inLevel tk i j) (worstOf (kindOf (tk j)) (tk j) x r) (omega arith) .1);
   }
 
   worst-schedule : Schedule n tk R
