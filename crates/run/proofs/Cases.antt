@@ -67,7 +67,10 @@ a-not-less : Takes a-run 1 0 8 → ⊥
 unfolding service sum worstRun worstNeed play hist best earliest every rank
 a-not-less k = omega (arith, k .ends)
 
--- ---- only aborted jobs can be cut off
+-- ---- no old job comes at the request, and only aborted ones can be cut off
+
+none-at-request : (q y : ℕ) → (MayCome completed q y q → ⊥) × (MayCome aborted q y q → ⊥)
+none-at-request q y = (λ h. omega arith, λ h. omega arith)
 
 others-whole : (R : Run) (i r : ℕ) → NotCut completed R i r × NotCut new R i r
 others-whole R i r = (tt, tt)
