@@ -12,3 +12,4 @@ pub mod Writes
 pub mod Trips
 pub mod Back
 pub mod Unique
+pub mod Codes

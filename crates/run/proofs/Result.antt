@@ -4,6 +4,5 @@ pub mod Fits
 pub mod Within
 pub mod Waited
 pub mod Exact
-pub mod Verdicts
 pub mod Accepted
 pub mod Promise

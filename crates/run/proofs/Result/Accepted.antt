@@ -1,22 +1,17 @@
 -- What an answer 0 of the analysis gives: both blocks read, every task is timely, and the report holds the rows.
-use Prim.Native.Nat.{ℕ, zero, suc, _+_, _*_, _<_}
+use Prim.Native.Nat.{ℕ, zero, suc, _+_, _*_, _≤_, _<_}
 use mathlib.Core.Path.{_≡_, refl, _∙_}
-use mathlib.Core.Bool.{true, not}
 use mathlib.Core.List.{List, [], _∷_, _++_, flatMap}
 use native.Mathlib.Nat.{not-suc-le-zero}
 use native.Mathlib.Omega.{arith}
 use lib.ListN.{length, drop}
-use borrow.Author.Tests.{ltb-true}
 use lib.Dec.{ltb}
 use Rattle.base.specs.Lists.{upTo}
 use Rattle.block.specs.declared.Task.{Task}
-use Rattle.block.specs.declared.Answer.{Answer}
 use Rattle.block.specs.declared.Verdict.{Verdict}
 use Rattle.block.specs.declared.Verdict.the-variants.{Passed, Refused}
-use Rattle.block.specs.Record.{allZero}
-use Rattle.block.specs.Answers.{answer, refusal, refuse, firstOf}
-use Rattle.block.specs.Checks.{recordChecks, doubleCheck}
-use Rattle.block.specs.Block.{Reading, holds, spoilt, reading, readingOf, blockVerdict, countByte, recordPart, tasksIn, blockChecks, unusedRoom}
+use Rattle.block.specs.Answers.{answer, refuse, firstOf}
+use Rattle.block.specs.Block.{Reading, holds, spoilt, readingOf}
 use Rattle.rows.specs.declared.Row.{Row}
 use Rattle.rows.specs.declared.Judged.{Judged}
 use Rattle.rows.specs.declared.Judged.the-variants.{Timely, Late}
@@ -25,52 +20,18 @@ use Rattle.rows.specs.Rows.{rowSize, rowNumbers, rowsOf, lateCheck, lateChecks}
 use Rattle.pair.specs.Analysis.{pairChecks, settled, judged, analyseOf}
 use Rattle.run.specs.Promise.{count, task, firstPlace, firstNumber}
 use Rattle.run.proofs.Tasks.{by-side}
-use Rattle.run.proofs.Result.Verdicts.{coded, each-coded, refuse-coded, coded-append, coded-each, first-coded, refused-passed, passed-append, passed-cons, passed-each}
-
--- ---- a block that does not read
-
-record-coded : (side k : ℕ) (r : List ℕ) → coded (firstOf (recordChecks side k r)) ≡ true
-unfolding each-coded
-record-coded side k r = first-coded (recordChecks side k r) (simp refuse-coded)
-
-block-coded : (side : ℕ) (b : List ℕ) → coded (blockVerdict side b) ≡ true
-unfolding blockVerdict each-coded
-block-coded side b =
-    first-coded (blockChecks side b) (simp refuse-coded
-    (coded-append (upTo records n ++ upTo doubles n) rest
-    (coded-append (upTo records n) (upTo doubles n) (coded-each records n (λ k. record-coded side k (recordPart b k))) (coded-each doubles n (λ k. simp refuse-coded)))
-    (simp refuse-coded)))
-  where
-    n : ℕ
-    n = countByte b
-
-    records : ℕ → Verdict
-    records k = firstOf (recordChecks side k (recordPart b k))
-
-    doubles : ℕ → Verdict
-    doubles = doubleCheck side (tasksIn b n)
-
-    rest : List Verdict
-    rest = refuse (not (allZero (unusedRoom b n))) (refusal 7 side 0) ∷ []
-
-spoilt-code : (side : ℕ) (b : List ℕ) (a : Answer) → readingOf side b ≡ spoilt a → 0 < a .code
-unfolding readingOf coded
-spoilt-code side b a e = go (blockVerdict side b) (block-coded side b) e
-  where
-    go : (v : Verdict) → coded v ≡ true → reading v b ≡ spoilt a → 0 < a .code
-    go Passed c f = absurd (let z : _≡_ {A = ℕ} 0 1 = cc in omega arith)
-    go (Refused a′) c f = let z : a′ ≡ a = cc in ltb-true 0 (a .code) (rw z at c)
+use Rattle.block.proofs.Verdicts.{first-left, first-right, each-at}
+use Rattle.block.proofs.Codes.{Coded, coded-passed, coded-refused, coded-test, coded-after, coded-each, reading-coded}
 
 -- ---- a pair
 
-late-coded : (code side k : ℕ) (j : Judged) → ltb 0 code ≡ true → coded (lateCheck code side k j) ≡ true
-unfolding coded
-late-coded code side k (Timely r) h = refl
-late-coded code side k (Late d) h = h
+late-coded : (code side k : ℕ) (j : Judged) → 1 ≤ code → Coded (lateCheck code side k j)
+late-coded code side k (Timely r) h = coded-passed
+late-coded code side k (Late d) h = coded-refused (answer code side k d) h
 
 timely : (code side k : ℕ) (j : Judged) → lateCheck code side k j ≡ Passed → (r : Row) × (j ≡ Timely r)
 timely code side k (Timely r) e = (r, refl)
-timely code side k (Late d) e = absurd (refused-passed e)
+timely code side k (Late d) e = let z : _≡_ {A = ℕ} 0 1 = cc in absurd (omega arith)
 
 module _ (olds news : List Task) where
   old-check : ℕ → Verdict
@@ -79,23 +40,22 @@ module _ (olds news : List Task) where
   new-check : ℕ → Verdict
   new-check k = lateCheck 10 1 k (rowOf olds news (task news k))
 
-  pair-coded : (room : ℕ) → coded (firstOf (pairChecks olds news room)) ≡ true
-  unfolding each-coded old-check new-check
+  pair-coded : (room : ℕ) → Coded (firstOf (pairChecks olds news room))
+  unfolding old-check new-check
   pair-coded room =
-      first-coded (pairChecks olds news room) (simp refuse-coded
-      (coded-append (upTo old-check (length olds)) (upTo new-check (length news))
-      (coded-each old-check (length olds) (λ k. late-coded 9 0 k (rowOf olds news (task olds k)) refl))
-      (coded-each new-check (length news) (λ k. late-coded 10 1 k (rowOf olds news (task news k)) refl))))
+      coded-test (ltb room (rowSize * (length olds + length news))) (answer 8 2 0 0) _ (omega arith)
+      (coded-after (upTo old-check (length olds)) (upTo new-check (length news))
+      (coded-each old-check (λ k. late-coded 9 0 k (rowOf olds news (task olds k)) (omega arith)) (length olds))
+      (coded-each new-check (λ k. late-coded 10 1 k (rowOf olds news (task news k)) (omega arith)) (length news)))
 
   all-timely : (room : ℕ) → firstOf (pairChecks olds news room) ≡ Passed
       → (i : ℕ) → i < count (olds ++ news) → (r : Row) × (rowOf olds news (task (olds ++ news) i) ≡ Timely r)
   unfolding old-check new-check
   all-timely room e =
-      let late = passed-cons (refuse (ltb room (rowSize * (length olds + length news))) (answer 8 2 0 0)) (lateChecks olds news) e .1 in
-      let each = passed-append (upTo old-check (length olds)) (upTo new-check (length news)) late in
+      let late = first-right (refuse (ltb room (rowSize * (length olds + length news))) (answer 8 2 0 0) ∷ []) (lateChecks olds news) e in
       by-side olds news (λ x. (r : Row) × (rowOf olds news x ≡ Timely r))
-      (λ k l. timely 9 0 k (rowOf olds news (task olds k)) (passed-each old-check (length olds) (each .0) k l))
-      (λ k l. timely 10 1 k (rowOf olds news (task news k)) (passed-each new-check (length news) (each .1) k l))
+      (λ k l. timely 9 0 k (rowOf olds news (task olds k)) (each-at old-check (length olds) k l (first-left (upTo old-check (length olds)) (upTo new-check (length news)) late)))
+      (λ k l. timely 10 1 k (rowOf olds news (task news k)) (each-at new-check (length news) k l (first-right (upTo old-check (length olds)) (upTo new-check (length news)) late)))
 
 next-row : (a b c : ℕ) (l : List ℕ) (i : ℕ) → firstNumber (a ∷ b ∷ c ∷ l) (suc i) ≡ firstNumber l i
 next-row a b c l i = let z : firstPlace (suc i) ≡ suc (suc (suc (firstPlace i))) = omega arith in rw z
@@ -127,7 +87,7 @@ pub record Accepted (oldBlock newBlock report : List ℕ) : Type 0 where
       → (r : Row) × (rowOf olds news (task (olds ++ news) i) ≡ Timely r) × (firstNumber (analyseOf oldBlock newBlock report .report) i ≡ r .first)
 
 pub accepted : (oldBlock newBlock report : List ℕ) → analyseOf oldBlock newBlock report .reply .code ≡ 0 → Accepted oldBlock newBlock report
-unfolding analyseOf coded
+unfolding analyseOf
 accepted oldBlock newBlock report e = blocks (readingOf 0 oldBlock) (readingOf 1 newBlock) refl refl e
   where
     pair : (m k : ℕ) (olds news : List Task) → readingOf 0 oldBlock ≡ holds m olds → readingOf 1 newBlock ≡ holds k news
@@ -145,9 +105,9 @@ accepted oldBlock newBlock report e = blocks (readingOf 0 oldBlock) (readingOf 1
           (t .0, t .1, rw (o, w, f) (row-at (rowOf olds news) (olds ++ news) (drop (length (rowsOf olds news)) report) i (t .0) l (t .1)));
     }
     pair m k olds news o w (Refused a) f c =
-        absurd (omega (arith, ltb-true 0 (a .code) (rw f at (pair-coded olds news (length report)))))
+        absurd (omega (arith, pair-coded olds news (length report) a f))
 
     blocks : (x y : Reading) → readingOf 0 oldBlock ≡ x → readingOf 1 newBlock ≡ y → judged x y report .reply .code ≡ 0 → Accepted oldBlock newBlock report
-    blocks (spoilt a) y o w c = absurd (omega (arith, spoilt-code 0 oldBlock a o))
-    blocks (holds m olds) (spoilt a) o w c = absurd (omega (arith, spoilt-code 1 newBlock a w))
+    blocks (spoilt a) y o w c = absurd (omega (arith, reading-coded 0 oldBlock a o))
+    blocks (holds m olds) (spoilt a) o w c = absurd (omega (arith, reading-coded 1 newBlock a w))
     blocks (holds m olds) (holds k news) o w c = pair m k olds news o w (firstOf (pairChecks olds news (length report))) refl c

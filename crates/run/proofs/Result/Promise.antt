@@ -4,8 +4,8 @@ use mathlib.Core.Path.{_≡_}
 use mathlib.Core.List.{List, _++_}
 use native.Mathlib.Omega.{arith}
 use Rattle.block.specs.declared.Task.{Task}
-use Rattle.block.specs.Block.{holds, readingOf}
 use Rattle.block.specs.Legal.{Legal}
+use Rattle.block.proofs.Reading.{reading-legal}
 use Rattle.window.specs.Order.{completed, kindOf}
 use Rattle.pair.specs.Analysis.{analyseOf}
 use Rattle.run.specs.Run.{Run, Job, Ended, IsRun}
@@ -48,11 +48,9 @@ module _ (oldBlock newBlock report : List ℕ) (a : Accepted oldBlock newBlock r
   both-halves : Bounds n tk number
   both-halves = record { within = first-half; exact = second-half }
 
--- a block that reads holds legal tasks: to be had from the block layer
-module _ (reading-legal : (side mode : ℕ) (b : List ℕ) (xs : List Task) → readingOf side b ≡ holds mode xs → Legal side xs) where
-  pub promise : (oldBlock newBlock report : List ℕ) → Promise oldBlock newBlock report
-  promise oldBlock newBlock report e =
-      let a = accepted oldBlock newBlock report e in
-      rw (a .old-reads, a .new-reads)
-      (both-halves oldBlock newBlock report a
-      (reading-legal 0 (a .mode) oldBlock (a .olds) (a .old-reads)) (reading-legal 1 (a .mode′) newBlock (a .news) (a .new-reads)))
+pub promise : (oldBlock newBlock report : List ℕ) → Promise oldBlock newBlock report
+promise oldBlock newBlock report e =
+    let a = accepted oldBlock newBlock report e in
+    rw (a .old-reads, a .new-reads)
+    (both-halves oldBlock newBlock report a
+    (reading-legal 0 (a .mode) oldBlock (a .olds) (a .old-reads)) (reading-legal 1 (a .mode′) newBlock (a .news) (a .new-reads)))

@@ -1,5 +1,5 @@
 -- In any run a job that ends has waited for all that was released above it, where no aborted task is above.
-use Prim.Native.Nat.{ℕ, zero, suc, _+_, _-_, _≤_, _<_}
+use Prim.Native.Nat.{ℕ, zero, suc, _+_, _≤_, _<_}
 use mathlib.Core.Path.{_≡_, refl}
 use mathlib.Core.Logic.{inl, inr}
 use native.Mathlib.Nat.{le-refl, eq-zero-or-pos}
