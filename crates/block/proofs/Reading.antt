@@ -1,24 +1,22 @@
 -- What a block that reads tells: its length and count, and that its tasks keep the rules.
 use Prim.Native.Nat.{ℕ, _≤_, _<_}
-use mathlib.Core.Path.{_≡_, refl, sym, ap, subst, _∙_}
-use mathlib.Core.Bool.{Bool, true, false, cond, not, _&&_}
-use mathlib.Core.List.{List, _++_}
+use mathlib.Core.Path.{_≡_, refl, sym, ap, subst}
+use mathlib.Core.Bool.{true, false, not, _&&_}
+use mathlib.Core.List.{List}
 use native.Mathlib.Omega.{arith}
 use lib.Dec.{eqb, ltb}
 use lib.ListN.{length, getD, take}
 use lib.Seq.{getD-take, length-take-le}
 use borrow.Author.Tests.{eqb-true, eqb-false, ltb-true, ltb-false, eq-eqb, ne-eqb, not-false}
-use Rattle.base.specs.Lists.{upTo}
 use Rattle.base.proofs.Lists.{up-length, up-at, any-not, or-left, or-right}
 use Rattle.block.specs.declared.Task.{Task}
-use Rattle.block.specs.declared.Answer.{Answer}
 use Rattle.block.specs.declared.Verdict.{Verdict}
 use Rattle.block.specs.declared.Verdict.the-variants.{Passed, Refused}
 use Rattle.block.specs.Format.{blockSize, mostTasks}
 use Rattle.block.specs.Record.{taskOf}
 use Rattle.block.specs.Answers.{refusal, firstOf}
-use Rattle.block.specs.Checks.{kindOn, taskChecks, recordChecks, alike, borneIn, doubleCheck, noTask}
-use Rattle.block.specs.Block.{recordPart, tasksIn, countByte, modeNumber, headChecks, eachRecord, eachDouble, bodyChecks, blockVerdict, Reading, holds, spoilt, reading, readingOf}
+use Rattle.block.specs.Checks.{kindOn, taskChecks, recordChecks, alike, doubleCheck, noTask}
+use Rattle.block.specs.Block.{recordPart, tasksIn, countByte, modeNumber, headChecks, eachRecord, eachDouble, bodyChecks, blockVerdict, holds, reading, readingOf}
 use Rattle.block.specs.Legal.{Rules, Legal}
 use Rattle.block.proofs.Verdicts.{refuse-passed, first-left, first-right, first-at, each-at}
 use Rattle.block.proofs.Heads.{head-length, head-headed, headed-side, headed-count}

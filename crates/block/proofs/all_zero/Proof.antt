@@ -1,20 +1,15 @@
 use Rattle.block.proofs.Zeros.{zero-sum}
-use Rattle.block.specs.Record.{allZero}
 use Rattle.base.proofs.Sums.{list-more}
 use Rattle.base.specs.Sums.{sumOf}
 use lib.Seq.{take-all}
 use lib.ListN.{length, take}
 use lib.Dec.{eqb}
 use mathlib.Core.Path.{_≡_, ap, _∙_}
-use Prim.Native.Nat.{ℕ, _≤_, _*_, _-_, _+_}
+use Prim.Native.Nat.{ℕ, _≤_, _*_, _-_}
 use borrow.Author.Needs.{needs}
 use native.Mathlib.Omega.{arith}
 use Rattle.block.proofs.all_zero.Statement.{statement}
 use Rattle.block.proofs.all_zero.Tie as tie
-use Rattle.block.proofs.all_zero.Reads as reads
-use Rattle.block.proofs.all_zero.Lts as lts
-use Rattle.block.proofs.wide.Reads as wide-reads
-use Rattle.block.proofs.wider.Reads as wider-reads
 
 abbrev Inv-loop : tie.InvT-loop
 Inv-loop bytes sum₀ i₀ sum i =

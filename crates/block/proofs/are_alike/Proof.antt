@@ -2,13 +2,8 @@ use Rattle.block.specs.Checks.{alike}
 use Rattle.block.specs.Record.{taskOf}
 use borrow.Author.Tests.{eq-eqb, ne-eqb}
 use borrow.Author.Needs.{needs}
-use native.Mathlib.Omega.{arith}
-use borrow.Author.Needs.{needs}
 use Rattle.block.proofs.are_alike.Statement.{statement}
 use Rattle.block.proofs.are_alike.Tie as tie
-use Rattle.block.proofs.are_alike.Reads as reads
-use Rattle.block.proofs.are_alike.Lts as lts
-use Rattle.block.proofs.half_at.Reads as half-at-reads
 
 half-at-requires : tie.Need-half-at-requires
 half-at-requires c κs = search needs

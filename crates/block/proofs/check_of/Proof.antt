@@ -2,14 +2,11 @@ use Rattle.block.specs.Format.{checkWords}
 use Rattle.block.specs.Block.{wordSum}
 use native.Mathlib.Numerals.{add-one}
 use mathlib.Core.Path.{_≡_}
-use Prim.Native.Nat.{ℕ, _≤_, _*_, _-_, _+_}
+use Prim.Native.Nat.{_≤_, _*_, _-_}
 use borrow.Author.Needs.{needs}
 use native.Mathlib.Omega.{arith}
 use Rattle.block.proofs.check_of.Statement.{statement}
 use Rattle.block.proofs.check_of.Tie as tie
-use Rattle.block.proofs.check_of.Reads as reads
-use Rattle.block.proofs.check_of.Lts as lts
-use Rattle.block.proofs.word_at.Reads as word-at-reads
 
 abbrev Inv-loop : tie.InvT-loop
 Inv-loop b sum₀ k₀ sum k =

@@ -3,19 +3,11 @@ use Rattle.block.specs.Checks.{taskChecks}
 use Rattle.block.specs.Answers.{refusal, refuse, firstOf}
 use Rattle.block.specs.Record.{taskOf}
 use Rattle.block.specs.declared.Task.{Task}
-use mathlib.Core.Bool.{true, false, Bool, not}
+use mathlib.Core.Bool.{Bool, not}
 use mathlib.Core.Path.{_≡_, sym, ap, _∙_}
-use borrow.Author.Needs.{needs}
-use native.Mathlib.Omega.{arith}
 use borrow.Author.Needs.{needs}
 use Rattle.block.proofs.check_record.Statement.{statement}
 use Rattle.block.proofs.check_record.Tie as tie
-use Rattle.block.proofs.check_record.Reads as reads
-use Rattle.block.proofs.check_record.Lts as lts
-use Rattle.block.proofs.all_zero.Reads as all-zero-reads
-use Rattle.block.proofs.check_task.Reads as check-task-reads
-use Rattle.block.proofs.record_at.Reads as record-at-reads
-use Rattle.block.proofs.refused.Reads as refused-reads
 
 rules : (c : tie.After-check-task) → firstOf (taskChecks (c .before .before .before .args .side) (c .before .before .before .args .k) (taskOf (c .before .before .before .args .rec .now))) ≡ c .check-task .result
 rules c = ap (λ (x : Task). firstOf (taskChecks (c .before .before .before .args .side) (c .before .before .before .args .k) x)) (sym (c .before .record-at .ensures)) ∙ sym (c .check-task .ensures)

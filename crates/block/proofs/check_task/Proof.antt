@@ -4,14 +4,8 @@ use borrow.Author.Tests.{eq-eqb, ne-eqb, lt-ltb, le-ltb, not-false}
 use mathlib.Core.Bool.{true}
 use mathlib.Core.Path.{_≡_, sym, _∙_}
 use borrow.Author.Needs.{needs}
-use native.Mathlib.Omega.{arith}
-use borrow.Author.Needs.{needs}
 use Rattle.block.proofs.check_task.Statement.{statement}
 use Rattle.block.proofs.check_task.Tie as tie
-use Rattle.block.proofs.check_task.Reads as reads
-use Rattle.block.proofs.check_task.Lts as lts
-use Rattle.block.proofs.kind_on.Reads as kind-on-reads
-use Rattle.block.proofs.refused.Reads as refused-reads
 
 kind : (c : tie.Else1) → kindOn (c .before .before .args .side) (c .before .before .args .x .kind) ≡ true
 kind c = sym (c .before .kind-on .ensures) ∙ not-false _ (c .if1 .left)

@@ -1,11 +1,7 @@
 use Rattle.block.specs.Checks.{kindOn}
 use borrow.Author.Tests.{eq-eqb, ne-eqb}
-use borrow.Author.Needs.{needs}
-use native.Mathlib.Omega.{arith}
 use Rattle.block.proofs.kind_on.Statement.{statement}
 use Rattle.block.proofs.kind_on.Tie as tie
-use Rattle.block.proofs.kind_on.Reads as reads
-use Rattle.block.proofs.kind_on.Lts as lts
 
 returns : tie.Need-returns
 unfolding kindOn

@@ -1,12 +1,7 @@
 use Rattle.block.specs.Record.{taskOf}
 use borrow.Author.Needs.{needs}
-use native.Mathlib.Omega.{arith}
-use borrow.Author.Needs.{needs}
 use Rattle.block.proofs.record_at.Statement.{statement}
 use Rattle.block.proofs.record_at.Tie as tie
-use Rattle.block.proofs.record_at.Reads as reads
-use Rattle.block.proofs.record_at.Lts as lts
-use Rattle.block.proofs.half_at.Reads as half-at-reads
 
 shared-slice-read-t3 : tie.Need-shared-slice-read-t3
 shared-slice-read-t3 c = search needs

@@ -1,0 +1,5 @@
+pub mod Doubles
+pub mod Tables
+pub mod Numbers
+pub mod Outcomes
+pub mod Unique

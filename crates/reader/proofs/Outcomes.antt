@@ -1,0 +1,38 @@
+-- The reader's three ways out.
+use Prim.Native.Nat.{ℕ, _*_, _≤_, _<_}
+use mathlib.Core.Path.{_≡_}
+use mathlib.Core.List.{List, _++_}
+use lib.ListN.{length, drop}
+use borrow.Author.Tests.{lt-ltb, le-ltb}
+use Rattle.base.proofs.Lists.{up-length}
+use Rattle.block.specs.declared.Answer.{Answer}
+use Rattle.block.specs.declared.Verdict.the-variants.{Passed, Refused}
+use Rattle.block.specs.Format.{listSize}
+use Rattle.block.specs.Record.{taskOf}
+use Rattle.block.specs.Answers.{answer}
+use Rattle.block.specs.Block.{recordPart, tasksIn, countByte, modeNumber, blockVerdict, readingOf, listOf, Read, readOf}
+
+-- an answer and a list, as an outcome
+abbrev pub outcome : Answer → List ℕ → Read
+outcome a l = record { reply = a; list = l }
+
+-- both halves at once
+pub both : {o : Read} {a : Answer} {l : List ℕ} (b : Answer) (m : List ℕ) → o ≡ outcome a l → b ≡ a → m ≡ l → (b ≡ o .reply) × (m ≡ o .list)
+both b m e p q = (cc, cc)
+
+module _ (side : ℕ) (b l : List ℕ) where
+  pub read-refused : (a : Answer) → blockVerdict side b ≡ Refused a → readOf side b l ≡ outcome a l
+  unfolding readOf readingOf
+  read-refused a e = rw e
+
+  tasks-long : length (tasksIn b (countByte b)) ≡ countByte b
+  tasks-long = up-length (λ k. taskOf (recordPart b k)) (countByte b)
+
+  pub read-short : blockVerdict side b ≡ Passed → length l < listSize * countByte b → readOf side b l ≡ outcome (answer 8 2 0 0) l
+  unfolding readOf readingOf
+  read-short e h = rw (e, tasks-long, lt-ltb _ _ h)
+
+  pub read-done : blockVerdict side b ≡ Passed → listSize * countByte b ≤ length l
+      → readOf side b l ≡ outcome (answer 0 side (countByte b) (modeNumber b)) (listOf (tasksIn b (countByte b)) ++ drop (listSize * countByte b) l)
+  unfolding readOf readingOf
+  read-done e h = rw (e, tasks-long, le-ltb _ _ h)

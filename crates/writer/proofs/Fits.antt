@@ -1,0 +1,61 @@
+-- Seven numbers that fit their fields make a small task, and those of a list that passes do.
+use Prim.Native.Nat.{ℕ, _+_, _*_, _<_}
+use mathlib.Core.Path.{_≡_}
+use mathlib.Core.Bool.{true, not}
+use mathlib.Core.List.{List, [], _∷_}
+use native.Mathlib.Omega.{arith}
+use lib.Dec.{ltb}
+use lib.ListN.{length, getD, drop, length-take, length-drop}
+use lib.Seq.{getD-take, getD-drop}
+use borrow.Author.Tests.{ltb-true, not-false}
+use Rattle.base.specs.Lists.{part}
+use Rattle.base.proofs.Lists.{every-at, and-left, and-right}
+use Rattle.block.specs.Format.{listSize}
+use Rattle.block.specs.Record.{allBelow, fits, taskFrom}
+use Rattle.block.specs.declared.Verdict.the-variants.{Passed}
+use Rattle.block.specs.Answers.{refusal, refuse, firstOf}
+use Rattle.block.specs.Checks.{taskChecks, numberChecks}
+use Rattle.block.specs.Block.{numbersPart, eachSeven}
+use Rattle.block.specs.Legal.{Small}
+use Rattle.block.proofs.Verdicts.{refuse-passed, first-at, first-right, each-at}
+
+module _ (l : List ℕ) (fit : fits l ≡ true) (long : length l ≡ listSize) where
+  byte : (i : ℕ) → i < 2 → getD l i 0 < 256
+  byte i h =
+      rw (getD-take 2 l i 0 h) at (ltb-true (getD (part l 0 2) i 0) 256 (every-at (λ n. ltb n 256) (part l 0 2) i 0 (and-left (allBelow 256 (part l 0 2)) (allBelow 65536 (part l 2 7)) fit)
+      (simp length-take (omega arith))))
+
+  half : (i : ℕ) → i < 5 → getD l (2 + i) 0 < 65536
+  half i h =
+      rw (getD-take 5 (drop 2 l) i 0 h, getD-drop 2 l i 0) at (ltb-true (getD (part l 2 7) i 0) 65536 (every-at (λ n. ltb n 65536) (part l 2 7) i 0
+      (and-right (allBelow 256 (part l 0 2)) (allBelow 65536 (part l 2 7)) fit) (simp (length-take, length-drop) (omega arith))))
+
+  pub seven-small : Small (taskFrom l)
+  unfolding taskFrom
+  seven-small = record {
+    kind = byte 0 (omega arith);
+    priority = byte 1 (omega arith);
+    number = half 0 (omega arith);
+    period = half 1 (omega arith);
+    deadline = half 2 (omega arith);
+    execution = half 3 (omega arith);
+    offset = half 4 (omega arith);
+  }
+
+-- ---- the sevens of a list that passes
+
+module _ (side : ℕ) (l : List ℕ) (n : ℕ) (passed : firstOf (eachSeven side l n) ≡ Passed) where
+  seven-passed : (k : ℕ) → k < n → firstOf (numberChecks side k (numbersPart l k)) ≡ Passed
+  seven-passed k h = each-at (λ k. firstOf (numberChecks side k (numbersPart l k))) n k h passed
+
+  pub seven-fits : (k : ℕ) → k < n → fits (numbersPart l k) ≡ true
+  seven-fits k h = not-false _ (refuse-passed _ (refusal 5 side k) (first-at (numberChecks side k (numbersPart l k)) (seven-passed k h) 0))
+
+  -- its task passes too
+  pub seven-task : (k : ℕ) → k < n → firstOf (taskChecks side k (taskFrom (numbersPart l k))) ≡ Passed
+  seven-task k h =
+      first-right (refuse (not (fits (numbersPart l k))) (refusal 5 side k) ∷ []) (taskChecks side k (taskFrom (numbersPart l k))) (seven-passed k h)
+
+  pub sevens-small : length l ≡ listSize * n → (k : ℕ) → k < n → Small (taskFrom (numbersPart l k))
+  sevens-small e k h =
+      seven-small (numbersPart l k) (seven-fits k h) (simp (length-take, length-drop) (omega arith))
