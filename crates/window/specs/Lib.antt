@@ -1,3 +1,4 @@
 pub mod Order
 pub mod Demand
 pub mod Worst
+pub mod Sound
