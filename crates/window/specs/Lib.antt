@@ -2,3 +2,4 @@ pub mod Order
 pub mod Demand
 pub mod Worst
 pub mod Sound
+pub mod Phases

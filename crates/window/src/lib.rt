@@ -1,4 +1,11 @@
-// The demands, the search for the least closing t, and the worst window over all phases.
+// The search for the least closing t, and the worst window over all phases.
+ghost use mathlib.Core.Path.{_≡_};
+ghost use Prim.Native.Nat.{ℕ, _+_, _<_, _≤_, _-_, min, max};
+ghost use Rattle.base.specs.Search.{windowOf};
+ghost use Rattle.base.proofs.Search.{Climbs};
+ghost use Rattle.term.specs.Terms.{Ready, flatDemand};
+ghost use Rattle.window.specs.Worst.{takeOf, sweep};
+ghost use Rattle.window.specs.Phases.{closingOf, windowAt, Kept, Stepped};
 
 // Where a window closed, or that it did not close in time.
 pub enum Closing {
@@ -16,4 +23,155 @@ pub struct Worst {
 pub enum Swept {
     Over(Worst),
     LateAt(u64),
+}
+
+// Between phases: the worst so far, where searches may start, and a time at which the phase just seen closes.
+pub struct State {
+    pub best: Worst,
+    pub start: u64,
+    pub shut: u64,
+}
+
+pub enum Step {
+    Go(State),
+    Stop,
+}
+
+// The least closing t up to the limit, the request coming at x, where none below `start` closes.
+pub fn search<'a>(
+    old: &'a [u64],
+    n: usize,
+    new: &'a [u64],
+    k: usize,
+    c: u64,
+    x: u64,
+    start: u64,
+    limit: u64,
+) -> Closing
+    requires { ⌜ Ready (now old) n × Ready (now new) k × (c < 2097152) × (limit < 131072) ⌝ }
+    requires { ⌜ Climbs (flatDemand (now old) n (now new) k c x) limit start ⌝ }
+    ensures { λ r. ⌜ r ≡ closingOf (windowOf (flatDemand (now (old .entry)) n (now (new .entry)) k c x) limit) ⌝ }
+{
+    let mut t: u64 = start;
+    loop {
+        let d = term::demand(old, n, new, k, c, x, t);
+        if d == t {
+            break Closing::At(t);
+        }
+        if limit < d {
+            break Closing::Late;
+        }
+        t = d;
+    }
+}
+
+impl Worst {
+    pub fn take(self, window: u64, phase: u64) -> Worst
+        ensures { λ r. ⌜ r ≡ takeOf self window phase ⌝ }
+    {
+        if self.window < window {
+            return Worst {
+                window: window,
+                phase: phase,
+            };
+        }
+        self
+    }
+}
+
+// Where later searches may start, once the window at x closed at t.
+fn start_after(start: u64, t: u64, x: u64) -> u64
+    requires { ⌜ x < 65536 ⌝ }
+    ensures { λ r. ⌜ r ≡ max start (min t (x + 1)) ⌝ }
+{
+    if t < x + 1 {
+        return larger(start, t);
+    }
+    larger(start, x + 1)
+}
+
+fn larger(a: u64, b: u64) -> u64
+    ensures { λ r. ⌜ r ≡ max a b ⌝ }
+{
+    if a < b { b } else { a }
+}
+
+// One phase: it brings nothing where it closes at the worst so far, else its window is searched for.
+fn see<'a>(
+    old: &'a [u64],
+    n: usize,
+    new: &'a [u64],
+    k: usize,
+    c: u64,
+    limit: u64,
+    s: State,
+    x: u64,
+) -> Step
+    requires { ⌜ Ready (now old) n × Ready (now new) k × (1 ≤ c) × (c ≤ limit) × (limit < 65536) × (x ≤ limit) ⌝ }
+    requires { ⌜ Kept (flatDemand (now old) n (now new) k c) c limit x s ⌝ }
+    ensures { λ r. ⌜ Stepped (flatDemand (now (old .entry)) n (now (new .entry)) k c) c limit x s r ⌝ }
+{
+    let best = s.best;
+    let start = s.start;
+    let w = best.window;
+    if term::demand(old, n, new, k, c, x, w) <= w {
+        return Step::Go(State {
+            best: best,
+            start: start,
+            shut: w,
+        });
+    }
+    match search(old, n, new, k, c, x, start, limit) {
+        Closing::At(t) => {
+            let b = best.take(t, x);
+            let f = start_after(start, t, x);
+            Step::Go(State {
+                best: b,
+                start: f,
+                shut: t,
+            })
+        }
+        Closing::Late => Step::Stop,
+    }
+}
+
+// The worst window over all phases from 1 to the limit with its smallest phase, or the first late phase.
+pub fn over_phases<'a>(
+    old: &'a [u64],
+    n: usize,
+    new: &'a [u64],
+    k: usize,
+    c: u64,
+    limit: u64,
+) -> Swept
+    requires { ⌜ Ready (now old) n × Ready (now new) k × (1 ≤ c) × (c ≤ limit) × (limit < 65536) ⌝ }
+    ensures { λ r. ⌜ r ≡ sweep (windowAt (flatDemand (now (old .entry)) n (now (new .entry)) k c) limit) limit ⌝ }
+{
+    let none = Worst {
+        window: 0,
+        phase: 0,
+    };
+    let mut s = State {
+        best: none,
+        start: c,
+        shut: 0,
+    };
+    let mut x: u64 = 1;
+    while x <= limit {
+        match see(old, n, new, k, c, limit, s, x) {
+            Step::Go(r) => {
+                let worst = r.best;
+                if r.shut <= x {
+                    return Swept::Over(worst);
+                }
+                s = r;
+                x = term::next_phase(old, n, x, limit);
+            }
+            Step::Stop => {
+                return Swept::LateAt(x);
+            }
+        }
+    }
+    let worst = s.best;
+    Swept::Over(worst)
 }

@@ -1,0 +1,120 @@
+-- Laws of flat demands: they rise with t, agree before both requests, and do not grow where the old terms do not.
+use Prim.Native.Nat.{ℕ, zero, suc, _+_, _*_, _%_, _-_, _≤_, _<_, min}
+use mathlib.Core.Path.{_≡_}
+use mathlib.Core.Bool.{Bool, true, false, cond}
+use mathlib.Core.List.{List}
+use mathlib.Core.Logic.{⊎-elim}
+use lib.ListN.{getD}
+use lib.Dec.{eqb, ltb}
+use borrow.Author.Tests.{lt-ltb, le-ltb}
+use native.Mathlib.Omega.{arith}
+use native.Mathlib.Numerals.{add-one}
+use native.Mathlib.Nat.{mod-lt}
+use Rattle.base.specs.Sums.{sum}
+use Rattle.base.specs.Numbers.{jobsIn, cutIn}
+use Rattle.base.proofs.Sums.{sum-le}
+use Rattle.base.proofs.Numbers.{jobs-rise, cut-rises}
+use Rattle.base.proofs.Search.{le-or-lt}
+use Rattle.base.proofs.Flat.{jobs-flat, cut-flat}
+use Rattle.term.specs.Terms.{Ready, shareOf, before, after, oldSum, newSum, flatDemand, growsBy, nextOf, nextPhase}
+
+pub sum-more : (f : ℕ → ℕ) (n : ℕ) → sum (n + 1) f ≡ sum n f + f n
+unfolding sum
+sum-more f n = rw add-one
+
+cond-le : (b : Bool) (m n k l : ℕ) → m ≤ k → n ≤ l → cond b m n ≤ cond b k l
+cond-le true m n k l h g = h
+cond-le false m n k l h g = g
+
+pub before-rises : (T C mark a b : ℕ) → a ≤ b → before a T C mark ≤ before b T C mark
+unfolding before
+before-rises T C mark a b h = cond-le (eqb mark 0) _ _ _ _ (jobs-rise T C a b h) (cut-rises T C a b h)
+
+pub old-rises : (l : List ℕ) (n a b : ℕ) → a ≤ b → oldSum l n a ≤ oldSum l n b
+unfolding shareOf
+old-rises l n a b h =
+    sum-le n (shareOf (before a) l) (shareOf (before b) l) (λ j g. before-rises (getD l (4 * j + 1) 0) (getD l (4 * j + 2) 0) (getD l (4 * j + 3) 0) a b h)
+
+pub new-rises : (l : List ℕ) (n a b : ℕ) → a ≤ b → newSum l n a ≤ newSum l n b
+unfolding shareOf after
+new-rises l n a b h =
+    sum-le n (shareOf (after a) l) (shareOf (after b) l) (λ j g. jobs-rise (getD l (4 * j + 1) 0) (getD l (4 * j + 2) 0) _ _ (omega arith))
+
+-- up to the end of its period a term that has grown stays
+pub before-flat : (T C mark x y : ℕ) → 1 ≤ T → growsBy C mark ≤ x % T → y ≤ x - x % T + T → before y T C mark ≤ before x T C mark
+unfolding before growsBy
+before-flat T C mark x y s h l = by-mark (eqb mark 0) h
+  where
+    by-mark : (b : Bool) → cond b 1 C ≤ x % T → cond b (jobsIn T C y) (cutIn T C y) ≤ cond b (jobsIn T C x) (cutIn T C x)
+    by-mark true g = jobs-flat T C x y s l g
+    by-mark false g = cut-flat T C x y s l g
+
+-- between x and the next phase at which it grows, a term does not grow
+pub record Still (f : ℕ → ℕ) (x next : ℕ) : Type 0 where
+  pub later : x < next
+  pub still : (y : ℕ) → x ≤ y → y < next → f y ≤ f x
+
+next-still : (T C mark x : ℕ) → 1 ≤ T → Still (λ m. before m T C mark) x (nextOf x T C mark)
+unfolding nextOf
+next-still T C mark x s = ⊎-elim stays grows (le-or-lt (growsBy C mark) (x % T))
+  where
+    grows : x % T < growsBy C mark → Still (λ m. before m T C mark) x (cond (ltb (x % T) (growsBy C mark)) (x + 1) (x - x % T + T + 1))
+    grows h = rw (lt-ltb (x % T) (growsBy C mark) h) (record { later = omega arith; still = λ y a b. before-rises T C mark y x (omega arith) })
+
+    stays : growsBy C mark ≤ x % T → Still (λ m. before m T C mark) x (cond (ltb (x % T) (growsBy C mark)) (x + 1) (x - x % T + T + 1))
+    stays h =
+        rw (le-ltb (x % T) (growsBy C mark) h)
+        (record { later = omega (arith, mod-lt x s); still = λ y a b. before-flat T C mark x y s h (omega arith) })
+
+pub phase-still : (l : List ℕ) (n x limit : ℕ) → Ready l n → x ≤ limit → Still (oldSum l n) x (nextPhase l n x limit)
+unfolding nextPhase sum shareOf
+phase-still l zero x limit r h = record { later = omega arith; still = λ y a b. omega arith }
+phase-still l (suc n) x limit r h =
+    let m = phase-still l n x limit (record { room = r .room; few = omega (arith, r .few); good = λ j g. r .good j (omega arith) }) h in
+    let k = last in
+    record { later = omega (arith, m .later, k .later); still = λ y a b. omega (arith, m .still y a (omega arith), k .still y a (omega arith)) }
+  where
+    last : Still (λ m. shareOf (before m) l n) x (shareOf (nextOf x) l n)
+    last = next-still (getD l (4 * n + 1) 0) (getD l (4 * n + 2) 0) (getD l (4 * n + 3) 0) x (r .good n (omega arith) .some)
+
+pub phase-within : (l : List ℕ) (n x limit : ℕ) → nextPhase l n x limit ≤ limit + 1
+unfolding nextPhase
+phase-within l zero x limit = omega arith
+phase-within l (suc n) x limit = omega (arith, phase-within l n x limit)
+
+module _ (o : List ℕ) (n : ℕ) (w : List ℕ) (k C : ℕ) where
+  pub flat-rises : (x s t : ℕ) → s ≤ t → flatDemand o n w k C x s ≤ flatDemand o n w k C x t
+  unfolding flatDemand
+  flat-rises x s t h = omega (arith, old-rises o n (min s x) (min t x) (omega arith), new-rises w k (s - x) (t - x) (omega arith))
+
+  pub flat-least : (x t : ℕ) → C ≤ flatDemand o n w k C x t
+  unfolding flatDemand
+  flat-least x t = omega arith
+
+  pub flat-same : (x y t : ℕ) → t ≤ x → t ≤ y → flatDemand o n w k C x t ≡ flatDemand o n w k C y t
+  unfolding flatDemand
+  flat-same x y t h l =
+      let a : min t x ≡ min t y = omega arith in
+      let b : t - x ≡ t - y = omega arith in
+      rw (a, b)
+
+  -- where the old part does not grow from x to y, the demand at y is nowhere above that at x
+  pub flat-calm : (x y t : ℕ) → x ≤ y → oldSum o n y ≤ oldSum o n x → flatDemand o n w k C y t ≤ flatDemand o n w k C x t
+  unfolding flatDemand
+  flat-calm x y t h e = omega (arith, ⊎-elim early late (le-or-lt t x), new-rises w k (t - y) (t - x) (omega arith))
+    where
+      early : t ≤ x → oldSum o n (min t y) ≤ oldSum o n (min t x)
+      early l = old-rises o n (min t y) (min t x) (omega arith)
+
+      late : x < t → oldSum o n (min t y) ≤ oldSum o n (min t x)
+      late l = omega (arith, old-rises o n (min t y) y (omega arith), old-rises o n x (min t x) (omega arith))
+
+  -- with no new term, before the request: the old terms at t
+  pub flat-steady : (x t : ℕ) → t ≤ x → flatDemand o n w 0 C x t ≡ C + oldSum o n t
+  unfolding flatDemand sum
+  flat-steady x t h = let a : min t x ≡ t = omega arith in rw a (omega arith)
+
+  -- with no old term, from a request at 0: the new terms at t
+  pub flat-request : (t : ℕ) → flatDemand o 0 w k C 0 t ≡ C + newSum w k t
+  unfolding flatDemand sum
+  flat-request t = let a : t - 0 ≡ t = omega arith in rw a (omega arith)

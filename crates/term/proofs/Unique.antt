@@ -1,0 +1,17 @@
+-- Each public function's contract leaves one answer.
+use mathlib.Core.Path.{_≡_, sym, _∙_}
+use contract.Lifetimes.{Lfts}
+use borrow.Fn.Kinds.{Dens, resT, endedOf}
+use denote.Triple.Clauses.{AtExit}
+use Rattle.term.proofs.demand.Reads as demand
+use Rattle.term.proofs.demand.Kinds as demand-kinds
+use Rattle.term.proofs.next_phase.Reads as next-phase
+use Rattle.term.proofs.next_phase.Kinds as next-phase-kinds
+
+pub demand-unique : (κs : Lfts 1) (a : Dens κs demand-kinds.ps) (r r′ : resT demand-kinds.r κs .Denot) (s s′ : AtExit (endedOf 1 demand-kinds.ps demand-kinds.r) κs)
+    → demand.Post κs a r s → demand.Post κs a r′ s′ → r ≡ r′
+demand-unique κs a r r′ s s′ p q = p ∙ sym q
+
+pub next-phase-unique : (κs : Lfts 1) (a : Dens κs next-phase-kinds.ps) (r r′ : resT next-phase-kinds.r κs .Denot) (s s′ : AtExit (endedOf 1 next-phase-kinds.ps next-phase-kinds.r) κs)
+    → next-phase.Post κs a r s → next-phase.Post κs a r′ s′ → r ≡ r′
+next-phase-unique κs a r r′ s s′ p q = p ∙ sym q

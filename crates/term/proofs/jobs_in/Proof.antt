@@ -1,0 +1,37 @@
+use borrow.Author.Needs.{needs}
+use native.Mathlib.Omega.{arith}
+use Prim.Native.Nat.{ℕ, _*_, _<_}
+use mathlib.Core.Path.{_≡_, ap}
+use Rattle.base.specs.Numbers.{ceil, jobsIn}
+use Rattle.base.proofs.Numbers.{jobs-small}
+use Rattle.term.proofs.jobs_in.Statement.{statement}
+use Rattle.term.proofs.jobs_in.Tie as tie
+use Rattle.term.proofs.jobs_in.Reads as reads
+use Rattle.term.proofs.jobs_in.Lts as lts
+use Rattle.term.proofs.whole.Reads as whole-reads
+
+small : (c : tie.After-whole) → c .whole .result * c .before .args .c < 34359738368
+unfolding jobsIn ceil
+small c =
+    let a = c .before .args in
+    let e = ap (λ (q : ℕ). q * a .c) (c .whole .ensures) in
+    omega (arith, e, jobs-small (a .p) (a .c) (a .t) (omega arith) (omega arith) (omega arith))
+
+sub-up : tie.Need-sub-up
+sub-up c = search needs
+
+add-up : tie.Need-add-up
+add-up c = search needs
+
+whole-requires : tie.Need-whole-requires
+whole-requires c κs = search needs
+
+mul-result : tie.Need-mul-result
+mul-result c = omega (arith, small c)
+
+returns : tie.Need-returns
+unfolding jobsIn ceil
+returns c = (ap (λ (q : ℕ). q * c .before .args .c) (c .whole .ensures), small c)
+
+pub jobs-in-spec : {M : Type 1} → statement M
+jobs-in-spec = tie.close (tie.spec sub-up add-up whole-requires mul-result returns)

@@ -1,0 +1,74 @@
+use borrow.Author.Needs.{needs}
+use native.Mathlib.Omega.{arith}
+use mathlib.Core.Path.{_≡_, sym, _∙_}
+use Rattle.term.specs.Terms.{flatDemand}
+use Rattle.window.specs.Phases.{Stepped, closingOf, windowAt}
+use Rattle.window.proofs.Phases.{closing-at, closing-late, flat-family, kept-climbs, seen-best, seen-window}
+use Rattle.window.proofs.see.Statement.{statement}
+use Rattle.window.proofs.see.Tie as tie
+use Rattle.window.proofs.see.Reads as reads
+use Rattle.window.proofs.see.Lts as lts
+use Rattle.window.proofs.start_after.Reads as start-after-reads
+use Rattle.window.proofs.Worst.take.Reads as take-reads
+use Rattle.term.proofs.demand.Reads as demand-reads
+use Rattle.window.proofs.search.Reads as search-reads
+
+demand-requires : tie.Need-demand-requires
+demand-requires c κs = search needs
+
+returns : tie.Need-returns
+unfolding Stepped
+returns c =
+    let a = c .before .before .before .before .before .args in
+    let q = c .before .before .before .before .before .pre in
+    let f = flatDemand (a .old .now) (a .n) (a .new .now) (a .k) (a .c) in
+    let fam = flat-family (a .old .now) (a .n) (a .new .now) (a .k) (a .c) (q .0 .2) in
+    seen-best f (a .c) (a .limit) fam (a .x) (a .s) (q .1) (omega (arith, c .before .demand .ensures, c .if1 .taken))
+
+search-requires : tie.Need-search-requires
+search-requires c κs =
+    let a = c .before .before .before .before .before .args in
+    let q = c .before .before .before .before .before .pre in
+    let f = flatDemand (a .old .now) (a .n) (a .new .now) (a .k) (a .c) in
+    let fam = flat-family (a .old .now) (a .n) (a .new .now) (a .k) (a .c) (q .0 .2) in
+    ((q .0 .0, q .0 .1, omega arith, omega arith), kept-climbs f (a .c) (a .limit) (a .x) (a .s) fam (q .0 .3) (q .0 .5) (q .1))
+
+enum-known-t : tie.Need-enum-known-t
+enum-known-t c = search needs
+
+take-requires : tie.Need-take-requires
+take-requires c κs = search needs
+
+start-after-requires : tie.Need-start-after-requires
+start-after-requires c κs = search needs
+
+enum-told : tie.Need-enum-told
+enum-told c = search needs
+
+returns-2 : tie.Need-returns-2
+unfolding Stepped windowAt
+returns-2 c =
+    let a = c .before .before .before .before .before .before .before .before .before .before .before .args in
+    let q = c .before .before .before .before .before .before .before .before .before .before .before .pre in
+    let f = flatDemand (a .old .now) (a .n) (a .new .now) (a .k) (a .c) in
+    let fam = flat-family (a .old .now) (a .n) (a .new .now) (a .k) (a .c) (q .0 .2) in
+    let e = closing-at _ _ (sym (c .before .before .before .before .before .search .ensures) ∙ c .before .before .before .t .given .1) in
+    rw (c .before .take .ensures, c .start-after .ensures) (seen-window f (a .c) (a .limit) fam (a .x) (a .s) (q .1) _ e)
+
+returns-3 : tie.Need-returns-3
+unfolding Stepped windowAt
+returns-3 c = closing-late _ (sym (c .before .before .search .ensures) ∙ c .enum-told .given .1)
+
+pub see-spec : {M : Type 1} → statement M
+see-spec =
+    tie.close
+    (tie.spec
+    demand-requires
+    returns
+    search-requires
+    enum-known-t
+    take-requires
+    start-after-requires
+    enum-told
+    returns-2
+    returns-3)
