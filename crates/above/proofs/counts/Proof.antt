@@ -1,0 +1,18 @@
+use borrow.Author.Needs.{needs}
+use native.Mathlib.Omega.{arith}
+use borrow.Author.Tests.{lt-ltb, le-ltb}
+use Rattle.above.proofs.counts.Statement.{statement}
+use Rattle.above.proofs.counts.Tie as tie
+use Rattle.above.proofs.counts.Reads as reads
+use Rattle.above.proofs.counts.Lts as lts
+
+returns : tie.Need-returns
+returns c =
+    simp (lt-ltb _ _ (c .if1 .taken))
+
+returns-2 : tie.Need-returns-2
+returns-2 c =
+    simp (le-ltb _ _ (c .if1 .left))
+
+pub counts-spec : {M : Type 1} → statement M
+counts-spec = tie.close (tie.spec returns returns-2)

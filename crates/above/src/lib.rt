@@ -1,0 +1,135 @@
+// The tasks above a rank, as flat terms. A table is rolled out once, each row gathers from the roll.
+ghost use mathlib.Core.Path.{_≡_};
+ghost use Prim.Native.Nat.{ℕ, _+_, _*_, _≤_, _<_};
+ghost use mathlib.Core.Bool.{cond};
+ghost use lib.ListN.{length};
+ghost use lib.Dec.{eqb, ltb};
+ghost use Rattle.base.proofs.Recip.{recipOf};
+ghost use Rattle.window.specs.Order.{rank};
+ghost use Rattle.above.specs.Roll.{one, markOf, Periodic, Rolled, entered, rollOf, countAbove, placed, termsAbove, leftAbove};
+use block::Table;
+use block::Task;
+
+fn wide(x: u16) -> u64
+    ensures { λ r. ⌜ (r ≡ x) × (r < 65536) ⌝ }
+{
+    x as u64
+}
+
+fn byte(x: u8) -> u64
+    ensures { λ r. ⌜ (r ≡ x) × (r < 256) ⌝ }
+{
+    x as u64
+}
+
+pub fn rank_of(x: Task) -> u64
+    ensures { λ r. ⌜ r ≡ rank x ⌝ }
+{
+    let p = byte(x.priority);
+    if x.kind < 2 {
+        return 2 * p;
+    }
+    2 * p + 1
+}
+
+fn mark_of(kind: u8) -> u64
+    ensures { λ r. ⌜ r ≡ one (eqb kind 1) ⌝ }
+{
+    if kind == 1 { 1 } else { 0 }
+}
+
+// The numbers of x, written at a place of the roll.
+fn enter(nums: &mut [u64], at: usize, x: Task)
+    requires { ⌜ (at + 5 < length (now nums)) × (1 ≤ x .period) ⌝ }
+    ensures { λ _. ⌜ (now (nums .exit) ≡ entered (now (nums .entry)) at x) × (x .period < 65536) × (x .execution < 65536) ⌝ }
+{
+    let p = wide(x.period);
+    nums[at] = (1099511627776 + (p - 1)) / p;
+    nums[at + 1] = p;
+    nums[at + 2] = wide(x.execution);
+    nums[at + 3] = mark_of(x.kind);
+    nums[at + 4] = wide(x.offset);
+    nums[at + 5] = rank_of(x);
+}
+
+// The roll of a table.
+pub fn roll(nums: &mut [u64], table: Table)
+    requires { ⌜ Periodic table × (length (now nums) ≡ 180) ⌝ }
+    ensures { λ _. ⌜ (now (nums .exit) ≡ rollOf (now (nums .entry)) (table .tasks) (table .count)) × Rolled (now (nums .exit)) (table .count) ⌝ }
+{
+    let n = table.count;
+    let mut j: usize = 0;
+    while j < n {
+        let x = table.tasks[j];
+        enter(nums, 6 * j, x);
+        j += 1;
+    }
+}
+
+fn put(nums: &mut [u64], at: usize, a: u64, b: u64, c: u64, d: u64)
+    requires { ⌜ at + 3 < length (now nums) ⌝ }
+    ensures { λ _. ⌜ now (nums .exit) ≡ placed (now (nums .entry)) at a b c d ⌝ }
+{
+    nums[at] = a;
+    nums[at + 1] = b;
+    nums[at + 2] = c;
+    nums[at + 3] = d;
+}
+
+fn counts(a: u64, b: u64) -> usize
+    ensures { λ r. ⌜ r ≡ one (ltb a b) ⌝ }
+{
+    if a < b { 1 } else { 0 }
+}
+
+// The terms of those of n rolled tasks that are above the rank p, and how many they are.
+pub fn gather(nums: &mut [u64], rolls: &[u64], n: usize, p: u64, which: usize) -> usize
+    requires { ⌜ Rolled (now rolls) n × (length (now nums) ≡ 120) × (which ≤ 5) ⌝ }
+    ensures { λ r. ⌜ (now (nums .exit) ≡ termsAbove (now (rolls .entry)) p which (now (nums .entry)) n) × (r ≡ countAbove (now (rolls .entry)) p n) ⌝ }
+{
+    let mut count: usize = 0;
+    let mut j: usize = 0;
+    while j < n {
+        let at = 6 * j;
+        put(
+            nums,
+            4 * count,
+            rolls[at],
+            rolls[at + 1],
+            rolls[at + 2],
+            rolls[at + which],
+        );
+        count += counts(rolls[at + 5], p);
+        j += 1;
+    }
+    count
+}
+
+// What one task leaves at the request.
+fn left_of(a: u64, p: u64, mark: u64, c: u64) -> u64
+    requires { ⌜ c < 65536 ⌝ }
+    ensures { λ r. ⌜ (r ≡ cond (ltb a p) (cond (eqb mark 0) c 0) 0) × (r < 65536) ⌝ }
+{
+    if a < p {
+        if mark == 0 {
+            return c;
+        }
+        return 0;
+    }
+    0
+}
+
+// C once of each completed one of n rolled tasks above the rank p.
+pub fn left(rolls: &[u64], n: usize, p: u64) -> u64
+    requires { ⌜ Rolled (now rolls) n ⌝ }
+    ensures { λ r. ⌜ (r ≡ leftAbove (now (rolls .entry)) p n) × (r ≤ 1966050) ⌝ }
+{
+    let mut sum: u64 = 0;
+    let mut j: usize = 0;
+    while j < n {
+        let at = 6 * j;
+        sum += left_of(rolls[at + 5], p, rolls[at + 3], rolls[at + 2]);
+        j += 1;
+    }
+    sum
+}
