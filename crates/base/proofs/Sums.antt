@@ -8,7 +8,7 @@ use native.Mathlib.Numerals.{add-one}
 use native.Mathlib.Omega.{arith}
 use mathlib.Core.List.{List, [], _∷_, _++_}
 use lib.ListN.{length, getD, take}
-use lib.Seq.{take-suc}
+use lib.Seq.{take-suc, take-length}
 use Rattle.base.specs.Sums.{sum, sumOf}
 
 -- ---- order
@@ -125,6 +125,11 @@ module _ {A : Type 0} where
   unfolding sumOf
   list-mono f g h [] = omega arith
   list-mono f g h (x ∷ xs) = omega (arith, h x, list-mono f g h xs)
+
+  pub list-none : (f : A → ℕ) → ((x : A) → f x ≡ 0) → (xs : List A) → sumOf f xs ≡ 0
+  unfolding sumOf
+  list-none f h [] = refl
+  list-none f h (x ∷ xs) = omega (arith, h x, list-none f h xs)
 
 -- ---- sums that stop early or start late, and sums over the places of a list
 

@@ -1,3 +1,4 @@
 pub mod Phases
+pub mod Steady
 pub mod Sweep
 pub mod Unique

@@ -1,0 +1,209 @@
+-- Document 01: where the window closes before the request, it is the steady window. So a phase at or past the deadline gives the steady window again.
+use Prim.Native.Nat.{ℕ, zero, suc, _+_, _*_, _-_, _/_, _%_, _≤_, _<_, min}
+use mathlib.Core.Path.{_≡_, refl, sym, ap, _∙_}
+use mathlib.Core.Bool.{Bool, true, false, cond}
+use mathlib.Core.Logic.{inl, inr}
+use mathlib.Core.List.{List}
+use mathlib.Core.Option.{Option, none, some}
+use lib.ListN.{length, getD}
+use lib.Arith.{digits-div, digits-mod}
+use native.Mathlib.Omega.{arith}
+use native.Mathlib.Nat.{le-refl, le-antisymm, eq-zero-or-pos, not-suc-le-zero, mod-lt, div-add-mod', div-zero, zero-mul}
+use Rattle.base.specs.Sums.{sum, sumOf}
+use Rattle.base.specs.Numbers.{ceil, jobsIn, cutIn}
+use Rattle.base.specs.Search.{windowOf}
+use Rattle.base.proofs.Sums.{sum-le, sum-lt, sum-pos, sum-add, list-places, list-none}
+use Rattle.base.proofs.Numbers.{jobs-rise, cut-rises, ceil-zero}
+use Rattle.base.proofs.Search.{Within, window-found, window-by}
+use Rattle.block.specs.declared.Task.{Task}
+use Rattle.block.specs.Checks.{noTask}
+use Rattle.block.specs.Legal.{Rules, Legal}
+use Rattle.window.specs.Order.{Kind, completed, aborted, new, kindAt, kindOf, above}
+use Rattle.window.specs.Demand.{sumAbove, jobs, oldTerm, steadyDemand, phaseDemand}
+
+-- ---- a cut-off term beside the whole one
+
+-- a number by its digits
+record Digits (t T : ℕ) : Type 0 where
+  k : ℕ
+  r : ℕ
+  low : r < T
+  is : t ≡ k * T + r
+
+digits : (t T : ℕ) → 1 ≤ T → Digits t T
+digits t T p = record { k = t / T; r = t % T; low = mod-lt t p; is = sym (div-add-mod' t T) }
+
+cut-at : (t k r T C : ℕ) → r < T → t ≡ k * T + r → cutIn T C t ≡ k * C + min C r
+unfolding cutIn
+cut-at t k r T C h e = rw (e, digits-div k h, digits-mod k h)
+
+jobs-at-zero : (t k T C : ℕ) → 1 ≤ T → t ≡ k * T + 0 → jobsIn T C t ≡ k * C
+unfolding jobsIn ceil
+jobs-at-zero t k T C h e =
+    let q : t + (T - 1) ≡ k * T + (T - 1) = omega arith in
+    rw (q, digits-div k {m = T} {r = T - 1} (omega arith))
+
+jobs-at : (t k r T C : ℕ) → r < T → t ≡ k * T + suc r → jobsIn T C t ≡ (k + 1) * C
+unfolding jobsIn ceil
+jobs-at t k r T C h e =
+    let q : t + (T - 1) ≡ suc k * T + r = omega arith in
+    let s : suc k ≡ k + 1 = omega arith in
+    rw (q, digits-div (suc k) h, s)
+
+cut-le : (t T C : ℕ) → 1 ≤ T → cutIn T C t ≤ jobsIn T C t
+cut-le t T C p = go (digits t T p .k) (digits t T p .r) (digits t T p .low) (digits t T p .is)
+  where
+    go : (k r : ℕ) → r < T → t ≡ k * T + r → cutIn T C t ≤ jobsIn T C t
+    go k zero l e = omega (arith, cut-at t k 0 T C l e, jobs-at-zero t k T C p e)
+    go k (suc r) l e = omega (arith, cut-at t k (suc r) T C l e, jobs-at t k r T C (omega arith) e)
+
+-- where it is below, it has grown in the last tick
+cut-grows : (t T C : ℕ) → 1 ≤ T → cutIn T C (suc t) < jobsIn T C (suc t) → cutIn T C t < cutIn T C (suc t)
+cut-grows t T C p h = go (digits (suc t) T p .k) (digits (suc t) T p .r) (digits (suc t) T p .low) (digits (suc t) T p .is)
+  where
+    go : (k r : ℕ) → r < T → suc t ≡ k * T + r → cutIn T C t < cutIn T C (suc t)
+    go k zero l e = absurd (omega (arith, cut-at (suc t) k 0 T C l e, jobs-at-zero (suc t) k T C p e))
+    go k (suc r) l e =
+        omega (arith, cut-at (suc t) k (suc r) T C l e, cut-at t k r T C (omega arith) (omega arith), jobs-at (suc t) k r T C (omega arith) e)
+
+-- ---- the same for an old task
+
+old-rises : (k : Kind) (x : Task) (a b : ℕ) → a ≤ b → oldTerm k x a ≤ oldTerm k x b
+old-rises completed x a b h = jobs-rise (x .period) (x .execution) a b h
+old-rises aborted x a b h = cut-rises (x .period) (x .execution) a b h
+old-rises new x a b h = omega arith
+
+old-le : (k : ℕ) (x : Task) (t : ℕ) → k < 2 → 1 ≤ x .period → oldTerm (kindAt k) x t ≤ jobs x t
+old-le zero x t l p = le-refl (jobs x t)
+old-le (suc zero) x t l p = cut-le t (x .period) (x .execution) p
+old-le (suc (suc k)) x t l p = absurd (omega arith)
+
+old-grows : (k : ℕ) (x : Task) (t : ℕ) → k < 2 → 1 ≤ x .period → oldTerm (kindAt k) x (suc t) < jobs x (suc t) → oldTerm (kindAt k) x t < oldTerm (kindAt k) x (suc t)
+old-grows zero x t l p h = absurd (omega arith)
+old-grows (suc zero) x t l p h = cut-grows t (x .period) (x .execution) p h
+old-grows (suc (suc k)) x t l p h = absurd (omega arith)
+
+cond-le : (b : Bool) (m n : ℕ) → m ≤ n → cond b m 0 ≤ cond b n 0
+cond-le true m n h = h
+cond-le false m n h = omega arith
+
+cond-lt : (b : Bool) (l m n : ℕ) → (m < n → l < m) → cond b m 0 < cond b n 0 → cond b l 0 < cond b m 0
+cond-lt true l m n h q = h q
+cond-lt false l m n h q = absurd (omega arith)
+
+cond-none : (b : Bool) (m : ℕ) → m ≡ 0 → cond b m 0 ≡ 0
+cond-none true m h = h
+cond-none false m h = refl
+
+-- ---- two demands that close by the same times have one window
+
+record Closed (f : ℕ → ℕ) (t : ℕ) : Type 0 where
+  at : ℕ
+  first : 1 ≤ at
+  by : at ≤ t
+  closes : f at ≤ at
+
+module _ (limit : ℕ) where
+  abbrev Carries : (ℕ → ℕ) → (ℕ → ℕ) → Type 0
+  Carries f g = (t : ℕ) → 1 ≤ t → t ≤ limit → f t ≤ t → Closed g t
+
+  carried : (f g : ℕ → ℕ) (s : ℕ) → Carries f g → windowOf f limit ≡ some s → Within (windowOf g limit) s
+  carried f g s h e =
+      let w = window-found f limit s e in
+      let k = h s (w .first) (w .within) (w .closes) in
+      let v = window-by g limit (k .at) (k .first) (omega (arith, k .by, w .within)) (k .closes) in
+      record { at = v .at; is = v .is; by = omega (arith, v .by, k .by) }
+
+  same-window : (f g : ℕ → ℕ) → Carries f g → Carries g f → windowOf f limit ≡ windowOf g limit
+  same-window f g a b = go (windowOf f limit) (windowOf g limit) refl refl
+    where
+      go : (o p : Option ℕ) → windowOf f limit ≡ o → windowOf g limit ≡ p → windowOf f limit ≡ windowOf g limit
+      go none none q r = cc
+      go (some s) none q r = let w = carried f g s a q in let e : windowOf g limit ≡ some (w .at) = w .is in let z : _≡_ {A = ℕ} 0 1 = cc in absurd (omega arith)
+      go none (some t) q r = let w = carried g f t b r in let e : windowOf f limit ≡ some (w .at) = w .is in let z : _≡_ {A = ℕ} 0 1 = cc in absurd (omega arith)
+      go (some s) (some t) q r =
+          let v = carried f g s a q in
+          let w = carried g f t b r in
+          let e : windowOf g limit ≡ some (v .at) = v .is in
+          let i : windowOf f limit ≡ some (w .at) = w .is in
+          let m : v .at ≡ t = cc in
+          let n : w .at ≡ s = cc in
+          let l : s ≡ t = omega (arith, v .by, w .by) in
+          cc
+
+-- ---- n terms f, and g at most them, that grow wherever they are below
+
+module _ (n C : ℕ) (f g : ℕ → ℕ → ℕ) (some : 1 ≤ C)
+    (up : (t j : ℕ) → j < n → g t j ≤ g (suc t) j)
+    (grow : (t j : ℕ) → j < n → g (suc t) j < f (suc t) j → g t j < g (suc t) j) where
+  full : (t : ℕ) → 1 ≤ t → C + sum n (g t) ≤ t → Closed (λ u. C + sum n (f u)) t
+  full zero h c = absurd (not-suc-le-zero h)
+  full (suc t) h c =
+      elim (eq-zero-or-pos (sum n (λ j. f (suc t) j - g (suc t) j))) [
+        | inl z ↦
+            record {
+              at = suc t;
+              first = h;
+              by = le-refl (suc t);
+              closes = omega (arith, sum-add n (g (suc t)) (λ j. f (suc t) j - g (suc t) j), sum-le n (f (suc t)) (λ j. g (suc t) j + (f (suc t) j - g (suc t) j)) (λ j l. omega arith));
+            }
+        | inr z ↦
+            let w = sum-pos n (λ j. f (suc t) j - g (suc t) j) z in
+            let l = sum-lt n (g t) (g (suc t)) (up t) (w .0) (w .1) (grow t (w .0) (w .1) (omega (arith, w .2))) in
+            let r = full t (omega arith) (omega arith) in
+            record { at = r .at; first = r .first; by = omega (arith, r .by); closes = r .closes }
+      ]
+
+-- ---- the theorem
+
+jobs-none : (T C : ℕ) → jobsIn T C 0 ≡ 0
+unfolding jobsIn ceil
+jobs-none zero C = zero-mul C
+jobs-none (suc T) C = rw (ceil-zero (suc T) (omega arith)) (zero-mul C)
+
+module _ (olds news : List Task) (i : Task) (legal : Legal 0 olds) (some : 1 ≤ i .execution) where
+  abbrev task : ℕ → Task
+  task j = getD olds j noTask
+
+  abbrev whole : ℕ → ℕ → ℕ
+  whole t j = cond (above i (task j)) (jobs (task j) t) 0
+
+  abbrev before : ℕ → ℕ → ℕ
+  before t j = cond (above i (task j)) (oldTerm (kindOf (task j)) (task j) t) 0
+
+  steady-is : (t : ℕ) → steadyDemand olds i t ≡ i .execution + sum (length olds) (whole t)
+  unfolding steadyDemand sumAbove
+  steady-is t = omega (arith, list-places (λ k. cond (above i k) (jobs k t) 0) olds noTask)
+
+  phase-is : (x t : ℕ) → t ≤ x → phaseDemand olds news i x t ≡ i .execution + sum (length olds) (before t)
+  unfolding phaseDemand sumAbove
+  phase-is x t h =
+      let m : min t x ≡ t = omega arith in
+      rw m (omega (arith, list-places (λ k. cond (above i k) (oldTerm (kindOf k) k t) 0) olds noTask, list-none (λ k. cond (above i k) (jobs k (t - x - k .offset)) 0) nothing news))
+    where
+      nothing : (k : Task) → cond (above i k) (jobs k (t - x - k .offset)) 0 ≡ 0
+      nothing k =
+          let z : t - x - k .offset ≡ 0 = omega arith in
+          cond-none (above i k) _ (ap (jobsIn (k .period) (k .execution)) z ∙ jobs-none (k .period) (k .execution))
+
+  -- up to a limit before the request, the window at a phase is the steady window
+  pub later-is-steady : (x limit : ℕ) → limit ≤ x → windowOf (phaseDemand olds news i x) limit ≡ windowOf (steadyDemand olds i) limit
+  later-is-steady x limit h =
+      same-window limit (phaseDemand olds news i x) (steadyDemand olds i) there back
+    where
+      there : (t : ℕ) → 1 ≤ t → t ≤ limit → phaseDemand olds news i x t ≤ t → Closed (steadyDemand olds i) t
+      there t f l c =
+          let r = full (length olds) (i .execution) whole before some
+          (λ u j m. cond-le (above i (task j)) _ _ (old-rises (kindOf (task j)) (task j) u (suc u) (omega arith)))
+          (λ u j m. cond-lt (above i (task j)) _ _ _ (old-grows (task j .kind) (task j) u (legal .rules j m .old refl) (legal .rules j m .period)))
+          t f (omega (arith, phase-is x t (omega arith))) in
+          record { at = r .at; first = r .first; by = r .by; closes = omega (arith, r .closes, steady-is (r .at)) }
+
+      back : (t : ℕ) → 1 ≤ t → t ≤ limit → steadyDemand olds i t ≤ t → Closed (phaseDemand olds news i x) t
+      back t f l c =
+          record {
+            at = t;
+            first = f;
+            by = le-refl t;
+            closes = omega (arith, phase-is x t (omega arith), steady-is t, sum-le (length olds) (before t) (whole t) (λ j m. cond-le (above i (task j)) _ _ (old-le (task j .kind) (task j) t (legal .rules j m .old refl) (legal .rules j m .period))));
+          }
