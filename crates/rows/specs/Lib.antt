@@ -1,2 +1,4 @@
+pub mod Fill
+pub mod Flat
 pub mod Row
 pub mod Rows

@@ -1,0 +1,5 @@
+pub mod Bridge
+pub mod Found
+pub mod Laid
+pub mod Unique
+pub mod Windows

@@ -1,0 +1,61 @@
+use borrow.Author.Needs.{needs}
+use native.Mathlib.Omega.{arith}
+use mathlib.Core.Path.{_≡_, sym, _∙_, ap}
+use lib.ListN.{length}
+use Rattle.term.specs.Terms.{Ready}
+use Rattle.window.specs.Order.{rank}
+use Rattle.above.specs.Roll.{countAbove, termsAbove}
+use Rattle.above.proofs.Above.{terms-ready, terms-length}
+use Rattle.rows.proofs.Bridge.{aborted-is}
+use borrow.Author.Needs.{needs}
+use Rattle.rows.proofs.aborted.Statement.{statement}
+use Rattle.rows.proofs.aborted.Tie as tie
+use Rattle.rows.proofs.aborted.Reads as reads
+use Rattle.rows.proofs.aborted.Lts as lts
+use Rattle.above.proofs.gather.Reads as gather-reads
+use Rattle.above.proofs.rank_of.Reads as rank-of-reads
+use Rattle.rows.proofs.aborted_row.Reads as aborted-row-reads
+use Rattle.rows.proofs.wide.Reads as wide-reads
+
+rank-of-requires : tie.Need-rank-of-requires
+rank-of-requires c κs = search needs
+
+gather-requires : tie.Need-gather-requires
+gather-requires c κs = search needs
+
+wide-requires : tie.Need-wide-requires
+wide-requires c κs = search needs
+
+wide-requires-2 : tie.Need-wide-requires-2
+wide-requires-2 c κs = search needs
+
+aborted-row-requires : tie.Need-aborted-row-requires
+aborted-row-requires c κs =
+    let a = c .before .before .before .before .before .before .before .before .before .before .args in
+    let g = c .before .before .before .before .before .gather .ensures in
+    let q = c .before .before .before .before .before .before .before .before .before .before .pre in
+    (rw (g .0, g .1) (terms-ready (a .olds .now) _ 3 (a .before .now) (q .0 .1) (a .n) (q .0 .0)), omega (arith, c .before .wide .ensures), omega (arith, c .before .wide .ensures, c .wide2 .ensures), omega (arith, c .wide2 .ensures))
+
+same-length : tie.Need-same-length
+same-length c = search needs
+
+returns : tie.Need-returns
+returns c =
+    let a = c .before .before .before .before .before .before .before .before .before .before .before .args in
+    let g = c .before .before .before .before .before .before .gather .ensures in
+    let q = c .before .before .before .before .before .before .before .before .before .before .before .pre in
+    let len = ap length (g .0) ∙ (terms-length (a .olds .now) _ 3 (a .before .now) (a .n) ∙ q .0 .1) in
+    let r = rw (c .before .before .wide .ensures .0, c .before .wide2 .ensures .0, g .0, g .1, c .before .before .before .before .before .before .before .rank-of .ensures) at (c .aborted-row .ensures) in
+    (len, λ w k xs ys t u o e. r ∙ aborted-is (a .i) (q .1 .0) (a .olds .now) (a .n) xs t (q .0 .0) o (a .before .now) (q .0 .1) ys (q .1 .2))
+
+pub aborted-spec : {M : Type 1} → statement M
+aborted-spec =
+    tie.close
+    (tie.spec
+    rank-of-requires
+    gather-requires
+    wide-requires
+    wide-requires-2
+    aborted-row-requires
+    same-length
+    returns)

@@ -1,0 +1,68 @@
+use borrow.Author.Needs.{needs}
+use native.Mathlib.Omega.{arith}
+use mathlib.Core.Path.{_≡_, sym, _∙_, ap}
+use lib.ListN.{length}
+use Rattle.term.specs.Terms.{Ready}
+use Rattle.window.specs.Order.{rank}
+use Rattle.above.specs.Roll.{countAbove, termsAbove}
+use Rattle.above.proofs.Above.{terms-ready, terms-length}
+use Rattle.rows.proofs.Bridge.{new-is}
+use borrow.Author.Needs.{needs}
+use Rattle.rows.proofs.entering.Statement.{statement}
+use Rattle.rows.proofs.entering.Tie as tie
+use Rattle.rows.proofs.entering.Reads as reads
+use Rattle.rows.proofs.entering.Lts as lts
+use Rattle.above.proofs.gather.Reads as gather-reads
+use Rattle.above.proofs.left.Reads as left-reads
+use Rattle.above.proofs.rank_of.Reads as rank-of-reads
+use Rattle.rows.proofs.new_row.Reads as new-row-reads
+
+rank-of-requires : tie.Need-rank-of-requires
+rank-of-requires c κs = search needs
+
+left-requires : tie.Need-left-requires
+left-requires c κs = search needs
+
+gather-requires : tie.Need-gather-requires
+gather-requires c κs = search needs
+
+gather-requires-2 : tie.Need-gather-requires-2
+gather-requires-2 c κs = search needs
+
+new-row-requires : tie.Need-new-row-requires
+new-row-requires c κs =
+    let a = c .before .before .before .before .before .before .before .before .before .before .before .before .before .before .before .before .args in
+    let g = c .before .before .before .before .before .before .before .before .gather .ensures in
+    let h = c .before .before .before .before .gather2 .ensures in
+    let q = c .before .before .before .before .before .before .before .before .before .before .before .before .before .before .before .before .pre in
+    (rw (g .0, g .1) (terms-ready (a .news .now) _ 3 (a .before .now) (q .0 .2) (a .k) (q .0 .1)), rw (h .0, h .1) (terms-ready (a .news .now) _ 4 (a .after .now) (q .0 .3) (a .k) (q .0 .1)), omega (arith, c .before .before .before .before .before .before .before .before .before .before .left .ensures), q .1 .0, q .1 .1)
+
+same-length : tie.Need-same-length
+same-length c = search needs
+
+same-length-2 : tie.Need-same-length-2
+same-length-2 c = search needs
+
+returns : tie.Need-returns
+returns c =
+    let a = c .before .before .before .before .before .before .before .before .before .before .before .before .before .before .before .before .before .args in
+    let g = c .before .before .before .before .before .before .before .before .before .gather .ensures in
+    let h = c .before .before .before .before .before .gather2 .ensures in
+    let q = c .before .before .before .before .before .before .before .before .before .before .before .before .before .before .before .before .before .pre in
+    let len = ap length (g .0) ∙ (terms-length (a .news .now) _ 3 (a .before .now) (a .k) ∙ q .0 .2) in
+    let len2 = ap length (h .0) ∙ (terms-length (a .news .now) _ 4 (a .after .now) (a .k) ∙ q .0 .3) in
+    let r = rw (g .0, g .1, h .0, h .1, c .before .before .before .before .before .before .before .before .before .before .before .left .ensures .0, c .before .before .before .before .before .before .before .before .before .before .before .before .rank-of .ensures) at (c .new-row .ensures) in
+    (len, len2, λ xs ys t u o e. r ∙ new-is (a .i) (q .1 .0) (a .olds .now) (a .n) xs t (q .0 .0) o (a .before .now) (q .0 .2) (a .news .now) (a .k) ys u (q .0 .1) (a .after .now) (q .0 .3) e (q .1 .2))
+
+pub entering-spec : {M : Type 1} → statement M
+entering-spec =
+    tie.close
+    (tie.spec
+    rank-of-requires
+    left-requires
+    gather-requires
+    gather-requires-2
+    new-row-requires
+    same-length
+    same-length-2
+    returns)

@@ -1,0 +1,103 @@
+use borrow.Author.Needs.{needs}
+use native.Mathlib.Omega.{arith}
+use mathlib.Core.Path.{_≡_, sym, _∙_}
+use Rattle.window.proofs.Phases.{closing-at, closing-late}
+use Rattle.rows.proofs.Windows.{steady-within, request-within}
+use borrow.Author.Needs.{needs}
+use Rattle.rows.proofs.new_row.Statement.{statement}
+use Rattle.rows.proofs.new_row.Tie as tie
+use Rattle.rows.proofs.new_row.Reads as reads
+use Rattle.rows.proofs.new_row.Lts as lts
+use Rattle.rows.proofs.larger.Reads as larger-reads
+use Rattle.rows.proofs.less.Reads as less-reads
+use Rattle.rows.proofs.request.Reads as request-reads
+use Rattle.rows.proofs.steady.Reads as steady-reads
+use Rattle.rows.proofs.timely.Reads as timely-reads
+use Rattle.rows.proofs.wide.Reads as wide-reads
+
+wide-requires : tie.Need-wide-requires
+wide-requires c κs = search needs
+
+wide-requires-2 : tie.Need-wide-requires-2
+wide-requires-2 c κs = search needs
+
+wide-requires-3 : tie.Need-wide-requires-3
+wide-requires-3 c κs = search needs
+
+steady-requires : tie.Need-steady-requires
+steady-requires c κs = search needs
+
+enum-known-s : tie.Need-enum-known-s
+enum-known-s c = search needs
+
+add-request : tie.Need-add-request
+add-request c = search needs
+
+add-request-2 : tie.Need-add-request-2
+add-request-2 c = search needs
+
+request-requires : tie.Need-request-requires
+request-requires c κs = search needs
+
+enum-known-w : tie.Need-enum-known-w
+enum-known-w c = search needs
+
+less-requires : tie.Need-less-requires
+less-requires c κs = search needs
+
+larger-requires : tie.Need-larger-requires
+larger-requires c κs = search needs
+
+timely-requires : tie.Need-timely-requires
+timely-requires c κs =
+    let a = c .before .before .before .before .before .before .before .before .before .before .before .before .before .before .before .args in
+    let e = closing-at _ _ (sym (c .before .before .before .before .before .before .before .before .before .steady .ensures) ∙ c .before .before .before .before .before .before .before .s .given .1) in
+    let l = steady-within (a .own .now) (a .n) _ _ _ e in
+    let g = closing-at _ _ (sym (c .before .before .before .before .before .request .ensures) ∙ c .before .before .before .w .given .1) in
+    let m = request-within (a .new .now) (a .k) _ _ _ g in
+    (omega (arith, c .larger .ensures, c .before .less .ensures), omega arith, omega arith)
+
+enum-told : tie.Need-enum-told
+enum-told c = search needs
+
+enum-told-2 : tie.Need-enum-told-2
+enum-told-2 c = search needs
+
+returns : tie.Need-returns
+returns c =
+    let e = rw (c .before .before .before .before .before .before .before .before .before .before .before .before .before .wide .ensures .0, c .before .before .before .before .before .before .before .before .before .before .before .before .wide2 .ensures .0) at (closing-at _ _ (sym (c .before .before .before .before .before .before .before .before .before .before .steady .ensures) ∙ c .before .before .before .before .before .before .before .before .s .given .1)) in
+    let g = rw (c .before .before .before .before .before .before .before .before .before .before .before .before .before .wide .ensures .0, c .before .before .before .before .before .before .before .before .before .before .before .wide3 .ensures .0, c .before .before .before .before .before .before .before .before .before .before .before .before .wide2 .ensures .0) at (closing-at _ _ (sym (c .before .before .before .before .before .before .request .ensures) ∙ c .before .before .before .before .w .given .1)) in
+    rw (e, g, c .timely .ensures, c .before .larger .ensures, c .before .before .less .ensures, c .before .before .before .before .before .before .before .before .before .before .before .wide3 .ensures .0)
+
+returns-2 : tie.Need-returns-2
+returns-2 c =
+    let e = rw (c .before .before .before .before .before .before .before .before .before .wide .ensures .0, c .before .before .before .before .before .before .before .before .wide2 .ensures .0) at (closing-at _ _ (sym (c .before .before .before .before .before .before .steady .ensures) ∙ c .before .before .before .before .s .given .1)) in
+    let g = rw (c .before .before .before .before .before .before .before .before .before .wide .ensures .0, c .before .before .before .before .before .before .before .wide3 .ensures .0, c .before .before .before .before .before .before .before .before .wide2 .ensures .0) at (closing-late _ (sym (c .before .before .request .ensures) ∙ c .enum-told .given .1)) in
+    rw (e, g)
+
+returns-3 : tie.Need-returns-3
+returns-3 c =
+    let e = rw (c .before .before .before .before .before .wide .ensures .0, c .before .before .before .before .wide2 .ensures .0) at (closing-late _ (sym (c .before .before .steady .ensures) ∙ c .enum-told2 .given .1)) in
+    rw e
+
+pub new-row-spec : {M : Type 1} → statement M
+new-row-spec =
+    tie.close
+    (tie.spec
+    wide-requires
+    wide-requires-2
+    wide-requires-3
+    steady-requires
+    enum-known-s
+    add-request
+    add-request-2
+    request-requires
+    enum-known-w
+    less-requires
+    larger-requires
+    timely-requires
+    enum-told
+    enum-told-2
+    returns
+    returns-2
+    returns-3)

@@ -1,0 +1,24 @@
+use borrow.Author.Needs.{needs}
+use native.Mathlib.Omega.{arith}
+use Rattle.window.specs.Phases.{closingOf}
+use Rattle.rows.specs.Flat.{flatSteady}
+use Rattle.rows.proofs.Windows.{ready-none, flat-climbs}
+use Rattle.rows.proofs.steady.Statement.{statement}
+use Rattle.rows.proofs.steady.Tie as tie
+use Rattle.rows.proofs.steady.Reads as reads
+use Rattle.rows.proofs.steady.Lts as lts
+use Rattle.window.proofs.search.Reads as search-reads
+
+search-requires : tie.Need-search-requires
+search-requires c κs =
+    let a = c .before .args in
+    let q = c .before .pre in
+    ((q .0, ready-none (a .terms .now) (a .n) (q .0), omega arith, omega arith), flat-climbs (a .terms .now) (a .n) (a .terms .now) 0 (a .c) (a .d) (a .d) (q .1) (q .2))
+
+returns : tie.Need-returns
+unfolding flatSteady
+returns c =
+    c .search .ensures
+
+pub steady-spec : {M : Type 1} → statement M
+steady-spec = tie.close (tie.spec search-requires returns)
