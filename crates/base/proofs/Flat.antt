@@ -1,9 +1,9 @@
 -- Up to the end of x's period an old task's part does not grow, once its whole time is counted at x.
-use Prim.Native.Nat.{ℕ, zero, suc, _+_, _*_, _/_, _%_, _-_, _≤_, _<_, min}
-use mathlib.Core.Path.{_≡_, refl, sym, ap, _∙_}
+use Prim.Native.Nat.{ℕ, _+_, _*_, _/_, _%_, _-_, _≤_, _<_, min}
+use mathlib.Core.Path.{_≡_, ap}
 use mathlib.Core.Logic.{_⊎_, inl, inr, ⊎-elim}
 use native.Mathlib.Omega.{arith}
-use native.Mathlib.Nat.{le-div-iff-mul-le, div-lt-iff-lt-mul, mul-le-mul-right, div-add-mod', add-mul, suc-mul, lt-of-not-le, le-of-mul-le-mul-right, eq-or-lt-of-le}
+use native.Mathlib.Nat.{le-div-iff-mul-le, div-lt-iff-lt-mul, mul-le-mul-right, div-add-mod', add-mul, lt-of-not-le, le-of-mul-le-mul-right}
 use native.Mathlib.Decide.{decLe}
 use Rattle.base.specs.Numbers.{ceil, jobsIn, cutIn}
 

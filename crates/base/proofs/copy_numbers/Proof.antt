@@ -2,14 +2,11 @@ use Rattle.base.proofs.Lists.{over-more, over-end}
 use lib.ListN.{length, take, drop, length-set}
 use mathlib.Core.List.{_++_}
 use mathlib.Core.Path.{_≡_, refl}
-use Prim.Native.Nat.{_≤_, _-_, _+_, min}
+use Prim.Native.Nat.{_≤_, _-_, min}
 use borrow.Author.Needs.{needs}
 use native.Mathlib.Omega.{arith}
 use Rattle.base.proofs.copy_numbers.Statement.{statement}
 use Rattle.base.proofs.copy_numbers.Tie as tie
-use Rattle.base.proofs.copy_numbers.Reads as reads
-use Rattle.base.proofs.copy_numbers.Lts as lts
-use Rattle.base.proofs.least.Reads as least-reads
 
 abbrev Inv-loop : tie.InvT-loop
 Inv-loop dst₀ src n i₀ dst i =
