@@ -1,0 +1,41 @@
+-- Cases a to j of document 01 hold of the definitions that `analyse` cites, and so on every two blocks that hold their tasks.
+use Prim.Native.Nat.{ℕ}
+use mathlib.Core.Path.{_≡_, refl, sym, _∙_}
+use mathlib.Core.List.{List, [], map, flatMap}
+use lib.ListN.{getD, List·getD-map}
+use Rattle.base.specs.Lists.{upTo}
+use Rattle.base.specs.Sums.{sumOf}
+use Rattle.base.specs.Numbers.{ceil, jobsIn, cutIn}
+use Rattle.base.specs.Search.{firstWhere, windowOf}
+use Rattle.block.specs.Answers.{done, firstOf}
+use Rattle.block.specs.Block.{holds, readingOf}
+use Rattle.window.specs.Order.{rank}
+use Rattle.window.specs.Demand.{sumAbove, steadyDemand, phaseDemand, requestDemand}
+use Rattle.window.specs.Worst.{takeOf, nextOf, sweep}
+use Rattle.rows.specs.Row.{rowOf}
+use Rattle.pair.specs.Analysis.{Analysis, analysis, analyseOf}
+use Rattle.pair.specs.Cases.{Case, accepted, lent, found, expected, cases}
+
+-- the whole table, whatever the mode numbers
+pub cases-hold : (m k : ℕ) → map (found m k) cases ≡ map expected cases
+unfolding cases upTo sumOf ceil jobsIn cutIn firstWhere windowOf firstOf rank sumAbove steadyDemand phaseDemand requestDemand takeOf nextOf sweep rowOf flatMap
+cases-hold m k = refl
+
+-- the case at a place of the table; past its end, case i
+abbrev pub caseAt : ℕ → Case
+caseAt j = getD cases j (accepted [] [] 0 [])
+
+same : (xs ys : List Analysis) (j : ℕ) (d : Analysis) → xs ≡ ys → getD xs j d ≡ getD ys j d
+same xs ys j d e = rw e
+
+holds-at : (j m k : ℕ) → found m k (caseAt j) ≡ expected (caseAt j)
+unfolding firstOf upTo flatMap
+holds-at j m k =
+    sym (List·getD-map (found m k) cases j (accepted [] [] 0 []))
+    ∙ same (map (found m k) cases) (map expected cases) j (analysis done []) (cases-hold m k)
+    ∙ List·getD-map expected cases j (accepted [] [] 0 [])
+
+pub cases-analysed : (j m k : ℕ) (oldBlock newBlock : List ℕ) → readingOf 0 oldBlock ≡ holds m (caseAt j .olds)
+    → readingOf 1 newBlock ≡ holds k (caseAt j .news) → analyseOf oldBlock newBlock (lent (caseAt j)) ≡ expected (caseAt j)
+unfolding analyseOf
+cases-analysed j m k oldBlock newBlock p q = rw (p, q) (holds-at j m k)
