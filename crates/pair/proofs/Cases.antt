@@ -13,12 +13,12 @@ use Rattle.window.specs.Order.{rank}
 use Rattle.window.specs.Demand.{sumAbove, steadyDemand, phaseDemand, requestDemand}
 use Rattle.window.specs.Worst.{takeOf, nextOf, sweep}
 use Rattle.rows.specs.Row.{rowOf}
-use Rattle.pair.specs.Analysis.{Analysis, analysis, analyseOf}
+use Rattle.pair.specs.Analysis.{Analysis, analysis, pairOf, analyseOf}
 use Rattle.pair.specs.Cases.{Case, accepted, lent, found, expected, cases}
 
 -- the whole table, whatever the mode numbers
 pub cases-hold : (m k : ℕ) → map (found m k) cases ≡ map expected cases
-unfolding cases upTo sumOf ceil jobsIn cutIn firstWhere windowOf firstOf rank sumAbove steadyDemand phaseDemand requestDemand takeOf nextOf sweep rowOf flatMap
+unfolding cases upTo sumOf ceil jobsIn cutIn firstWhere windowOf firstOf rank sumAbove steadyDemand phaseDemand requestDemand takeOf nextOf sweep rowOf flatMap pairOf
 cases-hold m k = refl
 
 -- the case at a place of the table; past its end, case i
@@ -29,7 +29,7 @@ same : (xs ys : List Analysis) (j : ℕ) (d : Analysis) → xs ≡ ys → getD x
 same xs ys j d e = rw e
 
 holds-at : (j m k : ℕ) → found m k (caseAt j) ≡ expected (caseAt j)
-unfolding firstOf upTo flatMap
+unfolding firstOf upTo flatMap pairOf
 holds-at j m k =
     sym (List·getD-map (found m k) cases j (accepted [] [] 0 []))
     ∙ same (map (found m k) cases) (map expected cases) j (analysis done []) (cases-hold m k)

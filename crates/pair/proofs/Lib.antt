@@ -1,1 +1,5 @@
+pub mod Codes
+pub mod Exits
 pub mod Cases
+pub mod Late
+pub mod Kept

@@ -1,6 +1,6 @@
 -- The analysis of two blocks: refusals in order, and what the lent report then holds. Definitions only.
 use Prim.Native.Nat.{ℕ, _+_, _*_}
-use mathlib.Core.List.{List, [], _∷_, _++_}
+use mathlib.Core.List.{List, _∷_, _++_}
 use lib.ListN.{length, drop}
 use lib.Dec.{ltb}
 use Rattle.block.specs.declared.Task.{Task}
@@ -27,11 +27,15 @@ abbrev pub settled : Verdict → List ℕ → List ℕ → Analysis
 settled Passed rows report = analysis done (rows ++ drop (length rows) report)
 settled (Refused a) rows report = analysis a report
 
+-- the tasks of two blocks that read
+unfoldable pub pairOf : List Task → List Task → List ℕ → Analysis
+pairOf olds news report = settled (firstOf (pairChecks olds news (length report))) (rowsOf olds news) report
+
 -- the old block first, then the new one, then the pair
 abbrev pub judged : Reading → Reading → List ℕ → Analysis
 judged (spoilt a) r report = analysis a report
 judged (holds m olds) (spoilt a) report = analysis a report
-judged (holds m olds) (holds k news) report = settled (firstOf (pairChecks olds news (length report))) (rowsOf olds news) report
+judged (holds m olds) (holds k news) report = pairOf olds news report
 
 unfoldable pub analyseOf : List ℕ → List ℕ → List ℕ → Analysis
 analyseOf oldBlock newBlock report = judged (readingOf 0 oldBlock) (readingOf 1 newBlock) report

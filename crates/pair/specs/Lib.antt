@@ -1,2 +1,4 @@
 pub mod Analysis
+pub mod Accepted
+pub mod Late
 pub mod Cases
