@@ -3,3 +3,4 @@ pub mod Exits
 pub mod Cases
 pub mod Late
 pub mod Kept
+pub mod Unique
