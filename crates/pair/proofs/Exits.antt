@@ -18,7 +18,7 @@ use Rattle.block.specs.Format.{mostTasks}
 use Rattle.block.specs.Answers.{answer, done, firstOf}
 use Rattle.block.specs.Block.{Reading, holds, spoilt, readingOf, loaded, loadedOf}
 use Rattle.block.specs.Legal.{Legal}
-use Rattle.block.proofs.Tables.{table-tasks}
+use Rattle.reader.proofs.Tables.{table-tasks}
 use Rattle.block.proofs.Reading.{reading-legal}
 use Rattle.window.specs.Sound.{Sound, heldBy}
 use Rattle.rows.specs.declared.Judged.{Judged}
@@ -26,7 +26,7 @@ use Rattle.rows.specs.declared.Judged.the-variants.{Timely, Late}
 use Rattle.rows.specs.Row.{rowOf}
 use Rattle.rows.specs.Rows.{rowSize, rowNumbers, rowsOf, lateChecks, rowsBy, rowsFound}
 use Rattle.pair.specs.Analysis.{Analysis, analysis, pairOf, analyseOf}
-use Rattle.pair.proofs.Codes.{reading-coded}
+use Rattle.block.proofs.Codes.{reading-coded}
 
 -- an outcome by its two parts
 pub parts : {o : Analysis} {a : Answer} {l : List ℕ} (b : Answer) (k : List ℕ) → o ≡ analysis a l → b ≡ a → k ≡ l → (b ≡ o .reply) × (k ≡ o .report)

@@ -18,7 +18,8 @@ use Rattle.rows.specs.Row.{rowOf}
 use Rattle.rows.specs.Rows.{rowSize, rowNumbers, rowsOf, lateChecks}
 use Rattle.pair.specs.Analysis.{pairOf, judged, settled, pairChecks, analyseOf}
 use Rattle.pair.specs.Accepted.{Accepted}
-use Rattle.pair.proofs.Codes.{reading-coded, late-coded}
+use Rattle.block.proofs.Codes.{reading-coded}
+use Rattle.pair.proofs.Codes.{late-coded}
 use Rattle.pair.proofs.Exits.{rows-length, row-width, pair-short, pair-late, pair-done}
 
 module _ (oldBlock newBlock report : List ℕ) where

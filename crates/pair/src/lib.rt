@@ -47,12 +47,12 @@ fn settle(olds: Table, news: Table, report: &mut [u32]) -> Answer
 pub fn analyse(old: &[u8], new: &[u8], report: &mut [u32]) -> Answer
     ensures { λ r. ⌜ (r ≡ analyseOf (now (old .entry)) (now (new .entry)) (now (report .entry)) .reply) × (now (report .exit) ≡ analyseOf (now (old .entry)) (now (new .entry)) (now (report .entry)) .report) ⌝ }
 {
-    let leaving = block::load(old, 0);
+    let leaving = reader::load(old, 0);
     let refusal = leaving.answer;
     if refusal.code != 0 {
         return refusal;
     }
-    let entering = block::load(new, 1);
+    let entering = reader::load(new, 1);
     let refusal = entering.answer;
     if refusal.code != 0 {
         return refusal;

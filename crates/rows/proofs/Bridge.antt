@@ -1,22 +1,20 @@
 -- From rolls to tasks: the flat windows over the terms gathered for i are the windows of document 01.
 use Prim.Native.Nat.{ℕ, zero, suc, _+_, _*_, _-_, _≤_, _<_, min}
-use mathlib.Core.Path.{_≡_, refl, sym, ap, subst, _∙_}
+use mathlib.Core.Path.{_≡_, refl, sym, ap, _∙_}
 use mathlib.Core.Bool.{cond}
 use mathlib.Core.List.{List, []}
 use lib.ListN.{length, getD}
 use lib.Dec.{eqb}
 use native.Mathlib.Omega.{arith}
 use Rattle.base.specs.Sums.{sum, sumOf}
-use Rattle.base.specs.Numbers.{jobsIn}
-use Rattle.base.specs.Search.{windowOf}
 use Rattle.base.proofs.Sums.{sum-eq, list-places}
 use Rattle.base.proofs.Search.{window-same}
 use Rattle.block.specs.declared.Task.{Task}
 use Rattle.block.specs.Checks.{noTask}
 use Rattle.block.specs.Legal.{Legal}
-use Rattle.term.specs.Terms.{before, after, shareOf, oldSum, newSum, flatDemand}
+use Rattle.term.specs.Terms.{before, after, oldSum, newSum, flatDemand}
 use Rattle.term.proofs.Terms.{flat-steady, flat-request}
-use Rattle.window.specs.Order.{Kind, completed, aborted, new, kindAt, kindOf, rank, above}
+use Rattle.window.specs.Order.{new, kindAt, kindOf, rank, above}
 use Rattle.window.specs.Demand.{sumAbove, jobs, oldTerm, leftTerm, steadyDemand, phaseDemand, requestDemand}
 use Rattle.window.specs.Worst.{sweep}
 use Rattle.window.specs.Phases.{windowAt}

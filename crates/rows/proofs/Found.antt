@@ -1,8 +1,8 @@
 -- From two tables filled one after the other to the rows of the pair.
-use Prim.Native.Nat.{ℕ, zero, suc, _+_, _-_, _*_, _≤_, _<_}
+use Prim.Native.Nat.{ℕ, zero, suc, _*_, _<_}
 use mathlib.Core.Path.{_≡_, refl, sym, ap, _∙_}
-use mathlib.Core.List.{List, [], _∷_, _++_, flatMap}
-use lib.ListN.{length, getD, take, replicate}
+use mathlib.Core.List.{List, [], _++_}
+use lib.ListN.{length, getD}
 use lib.Seq.{length-take-le, getD-take}
 use native.Mathlib.Omega.{arith}
 use Rattle.base.specs.Lists.{upTo}
@@ -13,7 +13,7 @@ use Rattle.block.specs.declared.Verdict.{Verdict}
 use Rattle.block.specs.declared.Verdict.the-variants.{Passed, Refused}
 use Rattle.block.specs.Answers.{firstOf}
 use Rattle.block.specs.Checks.{noTask}
-use Rattle.block.specs.Legal.{Rules, Legal}
+use Rattle.block.specs.Legal.{Rules}
 use Rattle.window.specs.Sound.{Sound, heldBy}
 use Rattle.above.specs.Roll.{Periodic, sixOf, rollOf}
 use Rattle.above.proofs.Above.{roll-at}

@@ -1,5 +1,5 @@
 -- Laws of the windows that the code works out of flat terms: where their searches may start, and how large they get.
-use Prim.Native.Nat.{ℕ, _+_, _≤_, _<_}
+use Prim.Native.Nat.{ℕ, _≤_, _<_}
 use mathlib.Core.Path.{_≡_}
 use mathlib.Core.List.{List}
 use mathlib.Core.Option.{some, none}
@@ -13,7 +13,7 @@ use Rattle.window.specs.declared.Worst.{Worst}
 use Rattle.window.specs.declared.Swept.the-variants.{Over, LateAt}
 use Rattle.window.specs.Worst.{sweep}
 use Rattle.window.specs.Phases.{windowAt}
-use Rattle.window.proofs.Sweep.{IsSwept, IsWorst, IsLate, sweep-is}
+use Rattle.window.proofs.Sweep.{IsWorst, IsLate, sweep-is}
 use Rattle.rows.specs.Flat.{flatSteady, flatRequest}
 
 pub ready-none : (l : List ℕ) (n : ℕ) → Ready l n → Ready l 0

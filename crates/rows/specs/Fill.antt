@@ -1,5 +1,5 @@
 -- What the rows of one table leave in the numbers. Definitions only, for the contracts of internal functions.
-use Prim.Native.Nat.{ℕ, _+_, _-_, _*_, _≤_, _<_}
+use Prim.Native.Nat.{ℕ, _-_, _*_, _≤_, _<_}
 use mathlib.Core.Path.{_≡_}
 use mathlib.Core.List.{List, _++_, flatMap}
 use lib.ListN.{length, getD, take, replicate}

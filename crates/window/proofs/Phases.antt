@@ -1,17 +1,15 @@
 -- What lets the code skip phases: one test at the worst so far, stopping where the windows settle, starting late, and jumping to where the old terms grow.
 use Prim.Native.Nat.{ℕ, zero, suc, _+_, _-_, _≤_, _<_, min, max}
-use mathlib.Core.Path.{_≡_, refl, sym, ap, _∙_}
+use mathlib.Core.Path.{_≡_, refl}
 use mathlib.Core.List.{List}
 use mathlib.Core.Option.{Option, none, some}
 use mathlib.Core.Logic.{_⊎_, inl, inr, ⊎-elim}
 use borrow.Author.Tests.{le-ltb, lt-ltb}
 use native.Mathlib.Omega.{arith}
 use native.Mathlib.Nat.{add-zero, add-suc, le-trans}
-use Rattle.base.specs.Search.{windowOf}
 use Rattle.base.proofs.Search.{Rises, Climbs, Window, window-found, window-by, climb-from, le-or-lt}
 use Rattle.term.specs.Terms.{flatDemand}
 use Rattle.term.proofs.Terms.{flat-rises, flat-same, flat-least}
-use Rattle.window.specs.declared.Closing.{Closing}
 use Rattle.window.specs.declared.Closing.the-variants.{At, Late}
 use Rattle.window.specs.declared.Worst.{Worst}
 use Rattle.window.specs.declared.Swept.{Swept}

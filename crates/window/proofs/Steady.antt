@@ -8,8 +8,8 @@ use mathlib.Core.Option.{Option, none, some}
 use lib.ListN.{length, getD}
 use lib.Arith.{digits-div, digits-mod}
 use native.Mathlib.Omega.{arith}
-use native.Mathlib.Nat.{le-refl, le-antisymm, eq-zero-or-pos, not-suc-le-zero, mod-lt, div-add-mod', div-zero, zero-mul}
-use Rattle.base.specs.Sums.{sum, sumOf}
+use native.Mathlib.Nat.{le-refl, eq-zero-or-pos, not-suc-le-zero, mod-lt, div-add-mod', zero-mul}
+use Rattle.base.specs.Sums.{sum}
 use Rattle.base.specs.Numbers.{ceil, jobsIn, cutIn}
 use Rattle.base.specs.Search.{windowOf}
 use Rattle.base.proofs.Sums.{sum-le, sum-lt, sum-pos, sum-add, list-places, list-none}
@@ -17,7 +17,7 @@ use Rattle.base.proofs.Numbers.{jobs-rise, cut-rises, ceil-zero}
 use Rattle.base.proofs.Search.{Within, window-found, window-by}
 use Rattle.block.specs.declared.Task.{Task}
 use Rattle.block.specs.Checks.{noTask}
-use Rattle.block.specs.Legal.{Rules, Legal}
+use Rattle.block.specs.Legal.{Legal}
 use Rattle.window.specs.Order.{Kind, completed, aborted, new, kindAt, kindOf, above}
 use Rattle.window.specs.Demand.{sumAbove, jobs, oldTerm, steadyDemand, phaseDemand}
 

@@ -1,10 +1,6 @@
-use borrow.Author.Needs.{needs}
-use native.Mathlib.Omega.{arith}
 use borrow.Author.Tests.{lt-ltb, le-ltb}
 use Rattle.above.proofs.counts.Statement.{statement}
 use Rattle.above.proofs.counts.Tie as tie
-use Rattle.above.proofs.counts.Reads as reads
-use Rattle.above.proofs.counts.Lts as lts
 
 returns : tie.Need-returns
 returns c =

@@ -5,14 +5,8 @@ use Prim.Native.Nat.{suc, _+_}
 use mathlib.Core.Path.{_≡_}
 use lib.ListN.{length-set}
 use Rattle.above.specs.Roll.{entered}
-use borrow.Author.Needs.{needs}
 use Rattle.above.proofs.enter.Statement.{statement}
 use Rattle.above.proofs.enter.Tie as tie
-use Rattle.above.proofs.enter.Reads as reads
-use Rattle.above.proofs.enter.Lts as lts
-use Rattle.above.proofs.mark_of.Reads as mark-of-reads
-use Rattle.above.proofs.rank_of.Reads as rank-of-reads
-use Rattle.above.proofs.wide.Reads as wide-reads
 
 wide-requires : tie.Need-wide-requires
 wide-requires c κs = search needs

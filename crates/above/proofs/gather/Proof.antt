@@ -1,18 +1,14 @@
 use borrow.Author.Needs.{needs}
 use native.Mathlib.Omega.{arith}
 use Rattle.base.specs.Sums.{sum}
-use Prim.Native.Nat.{_≤_, _-_, _+_, _*_}
+use Prim.Native.Nat.{_≤_, _-_, _+_}
 use mathlib.Core.Path.{_≡_, refl, sym, _∙_, ap}
 use native.Mathlib.Numerals.{add-one}
 use lib.ListN.{length}
 use Rattle.above.specs.Roll.{isAbove, countAbove, termsAbove}
-use Rattle.above.proofs.Above.{one-le, count-more, count-le, terms-length}
+use Rattle.above.proofs.Above.{one-le, count-more, terms-length}
 use Rattle.above.proofs.gather.Statement.{statement}
 use Rattle.above.proofs.gather.Tie as tie
-use Rattle.above.proofs.gather.Reads as reads
-use Rattle.above.proofs.gather.Lts as lts
-use Rattle.above.proofs.counts.Reads as counts-reads
-use Rattle.above.proofs.put.Reads as put-reads
 
 abbrev Inv-loop : tie.InvT-loop
 Inv-loop nums₀ rolls n p which count₀ j₀ nums count j = (j ≤ n) × (nums ≡ termsAbove rolls p which nums₀ j) × (count ≡ countAbove rolls p j) × (count ≤ j) × (length nums ≡ 120)

@@ -7,9 +7,6 @@ use Rattle.term.proofs.Terms.{sum-more}
 use Rattle.above.specs.Roll.{leftAbove}
 use Rattle.above.proofs.left.Statement.{statement}
 use Rattle.above.proofs.left.Tie as tie
-use Rattle.above.proofs.left.Reads as reads
-use Rattle.above.proofs.left.Lts as lts
-use Rattle.above.proofs.left_of.Reads as left-of-reads
 
 abbrev Inv-loop : tie.InvT-loop
 Inv-loop rolls n p sum₀ j₀ sum j = (j ≤ n) × (sum ≡ leftAbove rolls p j) × (sum ≤ 65535 * j)

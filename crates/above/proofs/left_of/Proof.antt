@@ -1,10 +1,7 @@
 use borrow.Author.Needs.{needs}
-use native.Mathlib.Omega.{arith}
 use borrow.Author.Tests.{lt-ltb, le-ltb, eq-eqb, ne-eqb}
 use Rattle.above.proofs.left_of.Statement.{statement}
 use Rattle.above.proofs.left_of.Tie as tie
-use Rattle.above.proofs.left_of.Reads as reads
-use Rattle.above.proofs.left_of.Lts as lts
 
 returns : tie.Need-returns
 returns c =

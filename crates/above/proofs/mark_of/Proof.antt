@@ -1,10 +1,6 @@
-use borrow.Author.Needs.{needs}
-use native.Mathlib.Omega.{arith}
 use borrow.Author.Tests.{eq-eqb, ne-eqb}
 use Rattle.above.proofs.mark_of.Statement.{statement}
 use Rattle.above.proofs.mark_of.Tie as tie
-use Rattle.above.proofs.mark_of.Reads as reads
-use Rattle.above.proofs.mark_of.Lts as lts
 
 returns : tie.Need-returns
 returns c =

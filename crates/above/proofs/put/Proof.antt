@@ -4,11 +4,8 @@ use Prim.Native.Nat.{suc, _+_}
 use mathlib.Core.Path.{_≡_}
 use lib.ListN.{length-set}
 use Rattle.above.specs.Roll.{placed}
-use borrow.Author.Needs.{needs}
 use Rattle.above.proofs.put.Statement.{statement}
 use Rattle.above.proofs.put.Tie as tie
-use Rattle.above.proofs.put.Reads as reads
-use Rattle.above.proofs.put.Lts as lts
 
 mul-nums : tie.Need-mul-nums
 mul-nums c = search needs

@@ -2,12 +2,8 @@ use borrow.Author.Needs.{needs}
 use native.Mathlib.Omega.{arith}
 use Rattle.window.specs.Order.{rank}
 use Rattle.above.proofs.Above.{side-old, side-new}
-use borrow.Author.Needs.{needs}
 use Rattle.above.proofs.rank_of.Statement.{statement}
 use Rattle.above.proofs.rank_of.Tie as tie
-use Rattle.above.proofs.rank_of.Reads as reads
-use Rattle.above.proofs.rank_of.Lts as lts
-use Rattle.above.proofs.byte.Reads as byte-reads
 
 byte-requires : tie.Need-byte-requires
 byte-requires c κs = search needs

@@ -1,17 +1,14 @@
 use borrow.Author.Needs.{needs}
 use native.Mathlib.Omega.{arith}
-use Prim.Native.Nat.{_≤_, _-_, _+_, _*_}
+use Prim.Native.Nat.{_≤_, _-_}
 use mathlib.Core.Path.{_≡_, refl, sym, _∙_}
 use native.Mathlib.Numerals.{add-one}
-use lib.ListN.{length, getD}
+use lib.ListN.{getD}
 use Rattle.block.specs.Checks.{noTask}
 use Rattle.above.specs.Roll.{rollOf, Rolled}
 use Rattle.above.proofs.Above.{rolled-more}
 use Rattle.above.proofs.roll.Statement.{statement}
 use Rattle.above.proofs.roll.Tie as tie
-use Rattle.above.proofs.roll.Reads as reads
-use Rattle.above.proofs.roll.Lts as lts
-use Rattle.above.proofs.enter.Reads as enter-reads
 
 abbrev Inv-loop : tie.InvT-loop
 Inv-loop nums₀ table n j₀ nums j = (j ≤ n) × (n ≡ table .count) × (nums ≡ rollOf nums₀ (table .tasks) j) × Rolled nums j

@@ -3,10 +3,6 @@ use mathlib.Core.Path.{refl}
 use borrow.Author.Needs.{needs}
 use Rattle.pair.proofs.analyse.Statement.{statement}
 use Rattle.pair.proofs.analyse.Tie as tie
-use Rattle.pair.proofs.analyse.Reads as reads
-use Rattle.pair.proofs.analyse.Lts as lts
-use Rattle.block.proofs.load.Reads as load-reads
-use Rattle.pair.proofs.settle.Reads as settle-reads
 
 load-requires : tie.Need-load-requires
 load-requires c κs = search needs

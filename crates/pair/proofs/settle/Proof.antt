@@ -13,11 +13,6 @@ use borrow.Author.Needs.{needs}
 use native.Mathlib.Omega.{arith}
 use Rattle.pair.proofs.settle.Statement.{statement}
 use Rattle.pair.proofs.settle.Tie as tie
-use Rattle.pair.proofs.settle.Reads as reads
-use Rattle.pair.proofs.settle.Lts as lts
-use Rattle.base.proofs.copy_numbers.Reads as copy-numbers-reads
-use Rattle.pair.proofs.plain.Reads as plain-reads
-use Rattle.rows.proofs.rows_of.Reads as rows-of-reads
 
 -- the tables' counts are those of their tasks
 sized : (c : tie.Start) → rowSize * (length (heldBy (c .args .olds)) + length (heldBy (c .args .news))) ≡ 3 * (c .args .olds .count + c .args .news .count)

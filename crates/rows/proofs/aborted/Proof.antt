@@ -1,21 +1,11 @@
 use borrow.Author.Needs.{needs}
 use native.Mathlib.Omega.{arith}
-use mathlib.Core.Path.{_≡_, sym, _∙_, ap}
+use mathlib.Core.Path.{_∙_, ap}
 use lib.ListN.{length}
-use Rattle.term.specs.Terms.{Ready}
-use Rattle.window.specs.Order.{rank}
-use Rattle.above.specs.Roll.{countAbove, termsAbove}
 use Rattle.above.proofs.Above.{terms-ready, terms-length}
 use Rattle.rows.proofs.Bridge.{aborted-is}
-use borrow.Author.Needs.{needs}
 use Rattle.rows.proofs.aborted.Statement.{statement}
 use Rattle.rows.proofs.aborted.Tie as tie
-use Rattle.rows.proofs.aborted.Reads as reads
-use Rattle.rows.proofs.aborted.Lts as lts
-use Rattle.above.proofs.gather.Reads as gather-reads
-use Rattle.above.proofs.rank_of.Reads as rank-of-reads
-use Rattle.rows.proofs.aborted_row.Reads as aborted-row-reads
-use Rattle.rows.proofs.wide.Reads as wide-reads
 
 rank-of-requires : tie.Need-rank-of-requires
 rank-of-requires c κs = search needs

@@ -1,16 +1,10 @@
 use borrow.Author.Needs.{needs}
 use native.Mathlib.Omega.{arith}
 use mathlib.Core.Path.{sym, _∙_}
-use Rattle.window.specs.Phases.{closingOf}
 use Rattle.window.proofs.Phases.{closing-at, closing-late}
 use Rattle.rows.proofs.Windows.{steady-within}
-use borrow.Author.Needs.{needs}
 use Rattle.rows.proofs.aborted_row.Statement.{statement}
 use Rattle.rows.proofs.aborted_row.Tie as tie
-use Rattle.rows.proofs.aborted_row.Reads as reads
-use Rattle.rows.proofs.aborted_row.Lts as lts
-use Rattle.rows.proofs.steady.Reads as steady-reads
-use Rattle.rows.proofs.timely.Reads as timely-reads
 
 steady-requires : tie.Need-steady-requires
 steady-requires c κs = search needs

@@ -1,21 +1,11 @@
 use borrow.Author.Needs.{needs}
 use native.Mathlib.Omega.{arith}
-use mathlib.Core.Path.{_≡_, sym, _∙_, ap}
+use mathlib.Core.Path.{_∙_, ap}
 use lib.ListN.{length}
-use Rattle.term.specs.Terms.{Ready}
-use Rattle.window.specs.Order.{rank}
-use Rattle.above.specs.Roll.{countAbove, termsAbove}
 use Rattle.above.proofs.Above.{terms-ready, terms-length}
 use Rattle.rows.proofs.Bridge.{completed-is}
-use borrow.Author.Needs.{needs}
 use Rattle.rows.proofs.completed.Statement.{statement}
 use Rattle.rows.proofs.completed.Tie as tie
-use Rattle.rows.proofs.completed.Reads as reads
-use Rattle.rows.proofs.completed.Lts as lts
-use Rattle.above.proofs.gather.Reads as gather-reads
-use Rattle.above.proofs.rank_of.Reads as rank-of-reads
-use Rattle.rows.proofs.completed_row.Reads as completed-row-reads
-use Rattle.rows.proofs.wide.Reads as wide-reads
 
 rank-of-requires : tie.Need-rank-of-requires
 rank-of-requires c κs = search needs

@@ -1,21 +1,11 @@
 use borrow.Author.Needs.{needs}
 use native.Mathlib.Omega.{arith}
-use mathlib.Core.Path.{_≡_, sym, _∙_}
-use Prim.Native.Nat.{_≤_}
-use mathlib.Core.Option.{some, none}
+use mathlib.Core.Path.{sym, _∙_}
 use Rattle.term.specs.Terms.{flatDemand}
-use Rattle.window.specs.Phases.{windowAt}
 use Rattle.window.proofs.Phases.{closing-at, closing-late}
 use Rattle.rows.proofs.Windows.{steady-within, worst-within, late-within}
-use borrow.Author.Needs.{needs}
 use Rattle.rows.proofs.completed_row.Statement.{statement}
 use Rattle.rows.proofs.completed_row.Tie as tie
-use Rattle.rows.proofs.completed_row.Reads as reads
-use Rattle.rows.proofs.completed_row.Lts as lts
-use Rattle.rows.proofs.narrow.Reads as narrow-reads
-use Rattle.rows.proofs.steady.Reads as steady-reads
-use Rattle.rows.proofs.timely.Reads as timely-reads
-use Rattle.window.proofs.over_phases.Reads as over-phases-reads
 
 over-phases-requires : tie.Need-over-phases-requires
 over-phases-requires c κs = search needs

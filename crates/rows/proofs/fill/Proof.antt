@@ -1,19 +1,13 @@
 use borrow.Author.Needs.{needs}
 use native.Mathlib.Omega.{arith}
-use Prim.Native.Nat.{_≤_, _<_, _-_, _+_, _*_}
+use Prim.Native.Nat.{_≤_, _<_, _-_}
 use mathlib.Core.Path.{_≡_, refl, sym, ap, _∙_}
-use lib.ListN.{length, getD}
+use lib.ListN.{length}
 use lib.ListN.{length-set}
-use Rattle.block.specs.Checks.{noTask}
 use Rattle.rows.specs.Fill.{Going}
 use Rattle.rows.proofs.Laid.{going-first, going-more, going-late, going-end}
 use Rattle.rows.proofs.fill.Statement.{statement}
 use Rattle.rows.proofs.fill.Tie as tie
-use Rattle.rows.proofs.fill.Reads as reads
-use Rattle.rows.proofs.fill.Lts as lts
-use Rattle.rows.proofs.place.Reads as place-reads
-use Rattle.rows.proofs.put_row.Reads as put-row-reads
-use Rattle.rows.proofs.row_of.Reads as row-of-reads
 
 abbrev Inv-loop : tie.InvT-loop
 Inv-loop numbers₀ before₀ after₀ olds n news k start code side own m j₀ numbers before after j = (j ≤ m) × (m ≡ own .count) × (length before ≡ 120) × (length after ≡ 120) × (length numbers ≡ 180) × Going olds n news k own start code side numbers₀ j numbers

@@ -1,19 +1,10 @@
 use borrow.Author.Needs.{needs}
 use native.Mathlib.Omega.{arith}
-use mathlib.Core.Path.{_≡_, sym, _∙_}
+use mathlib.Core.Path.{sym, _∙_}
 use Rattle.window.proofs.Phases.{closing-at, closing-late}
 use Rattle.rows.proofs.Windows.{steady-within, request-within}
-use borrow.Author.Needs.{needs}
 use Rattle.rows.proofs.new_row.Statement.{statement}
 use Rattle.rows.proofs.new_row.Tie as tie
-use Rattle.rows.proofs.new_row.Reads as reads
-use Rattle.rows.proofs.new_row.Lts as lts
-use Rattle.rows.proofs.larger.Reads as larger-reads
-use Rattle.rows.proofs.less.Reads as less-reads
-use Rattle.rows.proofs.request.Reads as request-reads
-use Rattle.rows.proofs.steady.Reads as steady-reads
-use Rattle.rows.proofs.timely.Reads as timely-reads
-use Rattle.rows.proofs.wide.Reads as wide-reads
 
 wide-requires : tie.Need-wide-requires
 wide-requires c κs = search needs

@@ -1,14 +1,9 @@
-use borrow.Author.Needs.{needs}
-use native.Mathlib.Omega.{arith}
 use mathlib.Core.Path.{sym, ap}
 use Rattle.window.specs.Phases.{closingOf}
 use Rattle.rows.specs.Flat.{flatRequest}
 use Rattle.rows.proofs.Windows.{ready-none, flat-climbs, request-over}
 use Rattle.rows.proofs.request.Statement.{statement}
 use Rattle.rows.proofs.request.Tie as tie
-use Rattle.rows.proofs.request.Reads as reads
-use Rattle.rows.proofs.request.Lts as lts
-use Rattle.window.proofs.search.Reads as search-reads
 
 returns : tie.Need-returns
 unfolding closingOf

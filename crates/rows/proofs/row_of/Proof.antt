@@ -1,13 +1,6 @@
 use borrow.Author.Needs.{needs}
-use native.Mathlib.Omega.{arith}
-use borrow.Author.Needs.{needs}
 use Rattle.rows.proofs.row_of.Statement.{statement}
 use Rattle.rows.proofs.row_of.Tie as tie
-use Rattle.rows.proofs.row_of.Reads as reads
-use Rattle.rows.proofs.row_of.Lts as lts
-use Rattle.rows.proofs.aborted.Reads as aborted-reads
-use Rattle.rows.proofs.completed.Reads as completed-reads
-use Rattle.rows.proofs.entering.Reads as entering-reads
 
 completed-requires : tie.Need-completed-requires
 completed-requires c κs = search needs

@@ -1,17 +1,12 @@
 use borrow.Author.Needs.{needs}
 use native.Mathlib.Omega.{arith}
-use mathlib.Core.Path.{_≡_, refl, sym, _∙_}
+use mathlib.Core.Path.{refl, sym}
 use Rattle.window.specs.Sound.{heldBy}
 use Rattle.rows.specs.Flat.{Tells}
-use Rattle.rows.specs.Fill.{padded, Filled}
+use Rattle.rows.specs.Fill.{padded}
 use Rattle.rows.proofs.Found.{sound-periodic, sound-timed, sound-tells, late-old, late-new, all-found}
-use borrow.Author.Needs.{needs}
 use Rattle.rows.proofs.rows_of.Statement.{statement}
 use Rattle.rows.proofs.rows_of.Tie as tie
-use Rattle.rows.proofs.rows_of.Reads as reads
-use Rattle.rows.proofs.rows_of.Lts as lts
-use Rattle.above.proofs.roll.Reads as roll-reads
-use Rattle.rows.proofs.fill.Reads as fill-reads
 
 slice-aggregate-roll : tie.Need-slice-aggregate-roll
 slice-aggregate-roll c = search needs

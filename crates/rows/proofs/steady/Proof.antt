@@ -1,13 +1,8 @@
-use borrow.Author.Needs.{needs}
 use native.Mathlib.Omega.{arith}
-use Rattle.window.specs.Phases.{closingOf}
 use Rattle.rows.specs.Flat.{flatSteady}
 use Rattle.rows.proofs.Windows.{ready-none, flat-climbs}
 use Rattle.rows.proofs.steady.Statement.{statement}
 use Rattle.rows.proofs.steady.Tie as tie
-use Rattle.rows.proofs.steady.Reads as reads
-use Rattle.rows.proofs.steady.Lts as lts
-use Rattle.window.proofs.search.Reads as search-reads
 
 search-requires : tie.Need-search-requires
 search-requires c κs =

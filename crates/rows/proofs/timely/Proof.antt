@@ -1,12 +1,6 @@
 use borrow.Author.Needs.{needs}
-use native.Mathlib.Omega.{arith}
-use Rattle.rows.specs.Row.{row}
-use borrow.Author.Needs.{needs}
 use Rattle.rows.proofs.timely.Statement.{statement}
 use Rattle.rows.proofs.timely.Tie as tie
-use Rattle.rows.proofs.timely.Reads as reads
-use Rattle.rows.proofs.timely.Lts as lts
-use Rattle.rows.proofs.narrow.Reads as narrow-reads
 
 narrow-requires : tie.Need-narrow-requires
 narrow-requires c κs = search needs

@@ -1,16 +1,12 @@
 use borrow.Author.Needs.{needs}
 use native.Mathlib.Omega.{arith}
-use Prim.Native.Nat.{ℕ, _*_, _<_, _/_, _%_, _-_, _+_, min}
+use Prim.Native.Nat.{ℕ, _*_, _<_, _%_, _+_, min}
 use mathlib.Core.Path.{_≡_, ap}
 use native.Mathlib.Nat.{div-add-mod'}
 use Rattle.base.specs.Numbers.{cutIn}
 use Rattle.base.proofs.Numbers.{cut-small}
 use Rattle.term.proofs.cut_in.Statement.{statement}
 use Rattle.term.proofs.cut_in.Tie as tie
-use Rattle.term.proofs.cut_in.Reads as reads
-use Rattle.term.proofs.cut_in.Lts as lts
-use Rattle.term.proofs.least.Reads as least-reads
-use Rattle.term.proofs.whole.Reads as whole-reads
 
 module _ (c : tie.After-whole) where
   abbrev q : ℕ

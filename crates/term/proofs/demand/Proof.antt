@@ -1,14 +1,7 @@
 use borrow.Author.Needs.{needs}
-use native.Mathlib.Omega.{arith}
 use Rattle.term.specs.Terms.{flatDemand}
 use Rattle.term.proofs.demand.Statement.{statement}
 use Rattle.term.proofs.demand.Tie as tie
-use Rattle.term.proofs.demand.Reads as reads
-use Rattle.term.proofs.demand.Lts as lts
-use Rattle.term.proofs.least.Reads as least-reads
-use Rattle.term.proofs.less.Reads as less-reads
-use Rattle.term.proofs.new_sum.Reads as new-sum-reads
-use Rattle.term.proofs.old_sum.Reads as old-sum-reads
 
 least-requires : tie.Need-least-requires
 least-requires c κs = search needs

@@ -1,11 +1,7 @@
-use borrow.Author.Needs.{needs}
-use native.Mathlib.Omega.{arith}
 use borrow.Author.Tests.{eq-eqb, ne-eqb}
 use Rattle.term.specs.Terms.{growsBy}
 use Rattle.term.proofs.grows_by.Statement.{statement}
 use Rattle.term.proofs.grows_by.Tie as tie
-use Rattle.term.proofs.grows_by.Reads as reads
-use Rattle.term.proofs.grows_by.Lts as lts
 
 returns : tie.Need-returns
 unfolding growsBy

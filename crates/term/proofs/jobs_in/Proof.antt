@@ -1,14 +1,11 @@
 use borrow.Author.Needs.{needs}
 use native.Mathlib.Omega.{arith}
 use Prim.Native.Nat.{ℕ, _*_, _<_}
-use mathlib.Core.Path.{_≡_, ap}
+use mathlib.Core.Path.{ap}
 use Rattle.base.specs.Numbers.{ceil, jobsIn}
 use Rattle.base.proofs.Numbers.{jobs-small}
 use Rattle.term.proofs.jobs_in.Statement.{statement}
 use Rattle.term.proofs.jobs_in.Tie as tie
-use Rattle.term.proofs.jobs_in.Reads as reads
-use Rattle.term.proofs.jobs_in.Lts as lts
-use Rattle.term.proofs.whole.Reads as whole-reads
 
 small : (c : tie.After-whole) → c .whole .result * c .before .args .c < 34359738368
 unfolding jobsIn ceil

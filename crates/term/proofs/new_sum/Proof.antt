@@ -1,6 +1,6 @@
 use borrow.Author.Needs.{needs}
 use native.Mathlib.Omega.{arith}
-use Prim.Native.Nat.{ℕ, _≤_, _-_, _*_, _+_}
+use Prim.Native.Nat.{_≤_, _-_, _*_, _+_}
 use mathlib.Core.Path.{_≡_, ap, _∙_}
 use lib.ListN.{getD}
 use Rattle.base.specs.Numbers.{jobsIn}
@@ -9,10 +9,6 @@ use Rattle.term.specs.Terms.{shareOf, after, newSum}
 use Rattle.term.proofs.Terms.{sum-more}
 use Rattle.term.proofs.new_sum.Statement.{statement}
 use Rattle.term.proofs.new_sum.Tie as tie
-use Rattle.term.proofs.new_sum.Reads as reads
-use Rattle.term.proofs.new_sum.Lts as lts
-use Rattle.term.proofs.less.Reads as less-reads
-use Rattle.term.proofs.jobs_in.Reads as jobs-in-reads
 
 abbrev Inv-loop : tie.InvT-loop
 Inv-loop terms n u sum₀ j₀ sum j = (j ≤ n) × (sum ≡ newSum terms j u) × (sum ≤ 34359738368 * j)

@@ -1,16 +1,12 @@
 use borrow.Author.Needs.{needs}
 use native.Mathlib.Omega.{arith}
-use Prim.Native.Nat.{ℕ, _≤_, _<_, _-_, _+_, _*_, _%_}
-use mathlib.Core.Path.{_≡_, ap}
-use native.Mathlib.Nat.{div-add-mod', mod-lt}
+use Prim.Native.Nat.{_≤_, _<_, _-_, _+_, _*_, _%_}
+use mathlib.Core.Path.{_≡_}
+use native.Mathlib.Nat.{div-add-mod'}
 use borrow.Author.Tests.{lt-ltb, le-ltb}
 use Rattle.term.specs.Terms.{growsBy, nextOf}
 use Rattle.term.proofs.next_of.Statement.{statement}
 use Rattle.term.proofs.next_of.Tie as tie
-use Rattle.term.proofs.next_of.Reads as reads
-use Rattle.term.proofs.next_of.Lts as lts
-use Rattle.term.proofs.grows_by.Reads as grows-by-reads
-use Rattle.term.proofs.whole.Reads as whole-reads
 
 part : (c : tie.After-whole) → c .whole .result * c .before .args .p + c .before .args .x % c .before .args .p ≡ c .before .args .x
 part c = rw (c .whole .ensures) (div-add-mod' (c .before .args .x) (c .before .args .p))

@@ -1,16 +1,11 @@
 use borrow.Author.Needs.{needs}
 use native.Mathlib.Omega.{arith}
-use Prim.Native.Nat.{ℕ, _≤_, _<_, _-_, _+_, _*_}
+use Prim.Native.Nat.{_≤_, _-_, _+_}
 use mathlib.Core.Path.{_≡_}
-use lib.ListN.{getD}
 use native.Mathlib.Numerals.{add-one}
-use Rattle.term.specs.Terms.{shareOf, nextOf, nextPhase}
+use Rattle.term.specs.Terms.{shareOf, nextPhase}
 use Rattle.term.proofs.next_phase.Statement.{statement}
 use Rattle.term.proofs.next_phase.Tie as tie
-use Rattle.term.proofs.next_phase.Reads as reads
-use Rattle.term.proofs.next_phase.Lts as lts
-use Rattle.term.proofs.least.Reads as least-reads
-use Rattle.term.proofs.next_of.Reads as next-of-reads
 
 abbrev Inv-loop : tie.InvT-loop
 Inv-loop terms n x limit next₀ j₀ next j = (j ≤ n) × (next ≡ nextPhase terms j x limit) × (next ≤ limit + 1)

@@ -1,15 +1,12 @@
 use borrow.Author.Needs.{needs}
 use native.Mathlib.Omega.{arith}
-use Prim.Native.Nat.{ℕ, _≤_, _-_, _*_}
+use Prim.Native.Nat.{_≤_, _-_, _*_}
 use mathlib.Core.Path.{_≡_}
 use Rattle.base.specs.Sums.{sum}
 use Rattle.term.specs.Terms.{shareOf, before, oldSum}
 use Rattle.term.proofs.Terms.{sum-more}
 use Rattle.term.proofs.old_sum.Statement.{statement}
 use Rattle.term.proofs.old_sum.Tie as tie
-use Rattle.term.proofs.old_sum.Reads as reads
-use Rattle.term.proofs.old_sum.Lts as lts
-use Rattle.term.proofs.old_term.Reads as old-term-reads
 
 abbrev Inv-loop : tie.InvT-loop
 Inv-loop terms n m sum₀ j₀ sum j = (j ≤ n) × (sum ≡ oldSum terms j m) × (sum ≤ 34359738368 * j)

@@ -1,13 +1,8 @@
 use borrow.Author.Needs.{needs}
-use native.Mathlib.Omega.{arith}
 use borrow.Author.Tests.{eq-eqb, ne-eqb}
 use Rattle.term.specs.Terms.{before}
 use Rattle.term.proofs.old_term.Statement.{statement}
 use Rattle.term.proofs.old_term.Tie as tie
-use Rattle.term.proofs.old_term.Reads as reads
-use Rattle.term.proofs.old_term.Lts as lts
-use Rattle.term.proofs.cut_in.Reads as cut-in-reads
-use Rattle.term.proofs.jobs_in.Reads as jobs-in-reads
 
 jobs-in-requires : tie.Need-jobs-in-requires
 jobs-in-requires c κs = search needs

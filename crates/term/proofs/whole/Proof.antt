@@ -1,12 +1,9 @@
-use borrow.Author.Needs.{needs}
 use native.Mathlib.Omega.{arith}
 use mathlib.Core.Path.{_≡_}
 use native.Mathlib.Nat.{mul-le-mul}
 use Rattle.base.proofs.Recip.{recipOf, recip-fits, recip-div}
 use Rattle.term.proofs.whole.Statement.{statement}
 use Rattle.term.proofs.whole.Tie as tie
-use Rattle.term.proofs.whole.Reads as reads
-use Rattle.term.proofs.whole.Lts as lts
 
 mul-result : tie.Need-mul-result
 mul-result c =

@@ -1,17 +1,13 @@
 use borrow.Author.Needs.{needs}
 use native.Mathlib.Omega.{arith}
 use Prim.Native.Nat.{_-_, _+_, _≤_}
-use mathlib.Core.Path.{_≡_, sym, _∙_}
+use mathlib.Core.Path.{sym}
 use Rattle.term.specs.Terms.{oldSum, flatDemand}
 use Rattle.term.proofs.Terms.{Still, flat-calm, phase-still, phase-within}
-use Rattle.window.specs.Phases.{Kept, Seen, Stepped}
+use Rattle.window.specs.Phases.{Kept, Stepped}
 use Rattle.window.proofs.Phases.{flat-family, kept-first, kept-next, sweep-early, sweep-late, sweep-end}
 use Rattle.window.proofs.over_phases.Statement.{statement}
 use Rattle.window.proofs.over_phases.Tie as tie
-use Rattle.window.proofs.over_phases.Reads as reads
-use Rattle.window.proofs.over_phases.Lts as lts
-use Rattle.term.proofs.next_phase.Reads as next-phase-reads
-use Rattle.window.proofs.see.Reads as see-reads
 
 abbrev Inv-loop : tie.InvT-loop
 Inv-loop old n new k c limit s₀ x₀ s x = Kept (flatDemand old n new k c) c limit x s

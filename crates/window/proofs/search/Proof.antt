@@ -8,9 +8,6 @@ use Rattle.term.proofs.Terms.{flat-rises}
 use Rattle.window.specs.Phases.{closingOf}
 use Rattle.window.proofs.search.Statement.{statement}
 use Rattle.window.proofs.search.Tie as tie
-use Rattle.window.proofs.search.Reads as reads
-use Rattle.window.proofs.search.Lts as lts
-use Rattle.term.proofs.demand.Reads as demand-reads
 
 abbrev Inv-loop : tie.InvT-loop
 Inv-loop old n new k c x start limit t₀ t = Climbs (flatDemand old n new k c x) limit t

@@ -1,17 +1,11 @@
 use borrow.Author.Needs.{needs}
 use native.Mathlib.Omega.{arith}
-use mathlib.Core.Path.{_≡_, sym, _∙_}
+use mathlib.Core.Path.{sym, _∙_}
 use Rattle.term.specs.Terms.{flatDemand}
-use Rattle.window.specs.Phases.{Stepped, closingOf, windowAt}
+use Rattle.window.specs.Phases.{Stepped, windowAt}
 use Rattle.window.proofs.Phases.{closing-at, closing-late, flat-family, kept-climbs, seen-best, seen-window}
 use Rattle.window.proofs.see.Statement.{statement}
 use Rattle.window.proofs.see.Tie as tie
-use Rattle.window.proofs.see.Reads as reads
-use Rattle.window.proofs.see.Lts as lts
-use Rattle.window.proofs.start_after.Reads as start-after-reads
-use Rattle.window.proofs.Worst.take.Reads as take-reads
-use Rattle.term.proofs.demand.Reads as demand-reads
-use Rattle.window.proofs.search.Reads as search-reads
 
 demand-requires : tie.Need-demand-requires
 demand-requires c κs = search needs

@@ -1,11 +1,7 @@
-use borrow.Author.Needs.{needs}
-use native.Mathlib.Omega.{arith}
 use borrow.Author.Tests.{lt-ltb, le-ltb}
 use Rattle.window.specs.Worst.{takeOf}
 use Rattle.window.proofs.Worst.take.Statement.{statement}
 use Rattle.window.proofs.Worst.take.Tie as tie
-use Rattle.window.proofs.Worst.take.Reads as reads
-use Rattle.window.proofs.Worst.take.Lts as lts
 
 returns : tie.Need-returns
 unfolding takeOf
