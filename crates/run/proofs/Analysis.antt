@@ -3,5 +3,4 @@ pub mod Counted
 pub mod Demands
 pub mod Whole
 pub mod Windows
-pub mod Swept
 pub mod Rows

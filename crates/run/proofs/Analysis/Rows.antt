@@ -22,7 +22,7 @@ use Rattle.rows.specs.Row.{orZero, steadyWindow, phaseWindow, requestWindow, co
 use Rattle.run.specs.Promise.{count, task}
 use Rattle.run.proofs.Tasks.{Sound, sound}
 use Rattle.run.proofs.Analysis.Demands.{demandOld, demandNew, demandPhase, demandRequest, steady-old, steady-new, at-phase, from-request}
-use Rattle.run.proofs.Analysis.Swept.{IsWorst, sweep-worst}
+use Rattle.window.proofs.Sweep.{IsWorst, sweep-is}
 use Rattle.run.proofs.Analysis.Windows.{Closes, CompletedWindows, AbortedWindow, NewWindows, Windows, Least}
 
 same-first : {r r′ : Row} → Timely r ≡ Timely r′ → r .first ≡ r′ .first
@@ -49,39 +49,34 @@ module _ (olds news : List Task) (old-legal : Legal 0 olds) (new-legal : Legal 1
 
   module _ (s : Worst) (over : sweep (phaseWindow olds news (tk i)) (tk i .deadline) ≡ Over s) where
     w : IsWorst (phaseWindow olds news (tk i)) (tk i .deadline) s
-    w = sweep-worst (phaseWindow olds news (tk i)) (tk i .deadline) s over
+    w = rw over at (sweep-is (phaseDemand olds news (tk i)) (tk i .deadline) (tk i .deadline))
 
     at : (x t : ℕ) → phaseWindow olds news (tk i) x ≡ some t → Window (phaseDemand olds news (tk i) x) (tk i .deadline) t
     at x t e = window-found (phaseDemand olds news (tk i) x) (tk i .deadline) t e
 
-    -- there is a first phase, and it has a window, so the worst is one too
+    -- there is a first phase
     some-phase : 1 ≤ tk i .deadline
     some-phase = omega (arith, G .execution i l, G .in-deadline i l)
-
-    worst-some : 0 < s .window
-    worst-some =
-        let f = w .found 1 (le-refl 1) some-phase in
-        omega (arith, at 1 (f .0) (f .1) .first, f .2)
 
     completed-windows : CompletedWindows n tk 0 i (s .window)
     completed-windows = record {
       window = λ x. orZero (phaseWindow olds news (tk i) x);
       closing = λ x p h.
-          let f = w .found x p (omega (arith, some-phase)) in
+          let f = w .top x p (omega (arith, some-phase)) in
           rw (f .1) (closing (phaseDemand olds news (tk i) x) (demandPhase n tk i x) (tk i .deadline) (f .0) (λ u. at-phase olds news old-legal new-legal i u x) (f .1));
-      most = λ x p h. let f = w .found x p (omega (arith, some-phase)) in rw (f .1) (omega (arith, f .2));
-      timely = let v = w .gives worst-some in at (s .phase) (s .window) (v .2) .within;
+      most = λ x p h. let f = w .top x p (omega (arith, some-phase)) in rw (f .1) (omega (arith, f .2));
+      timely = let v = w .gives some-phase in at (s .phase) (s .window) (v .1) .within;
     }
 
     completed-least : Least n tk i (s .window)
     completed-least =
-        let v = w .gives worst-some in
+        let v = w .gives some-phase in
         record {
           phase = s .phase;
           some = v .0;
           least = λ u p c. elim (decLe (s .window) u) [
             | yes h ↦ omega arith
-            | no h ↦ absurd (omega (arith, at (s .phase) (s .window) (v .2) .unmet u p (omega arith), at-phase olds news old-legal new-legal i u (s .phase)))
+            | no h ↦ absurd (omega (arith, at (s .phase) (s .window) (v .1) .unmet u p (omega arith), at-phase olds news old-legal new-legal i u (s .phase)))
           ];
         }
 
