@@ -1,0 +1,86 @@
+-- The change fits, then 41 bytes for each task; the three puts are the text.
+use Prim.Native.Nat.{ℕ, _+_, _≤_}
+use mathlib.Core.Path.{_≡_, sym, ap, _∙_}
+use lib.ListN.{length, length-map}
+use Rattle.lines.specs.Put.{next, written, put}
+use Rattle.lines.proofs.Put.{next-fits, written-fits}
+use Rattle.render.specs.Printed.{changeLine, taskLines, tasksOf}
+use Rattle.render.proofs.Printed.{change-line, change-room, few, tasks-length, done-long, done-built}
+use borrow.Author.Needs.{needs}
+use native.Mathlib.Omega.{arith}
+use Rattle.render.proofs.put_done.Statement.{statement}
+use Rattle.render.proofs.put_done.Tie as tie
+
+wide-requires : tie.Need-wide-requires
+wide-requires c κs = search needs
+
+wide-requires-2 : tie.Need-wide-requires-2
+wide-requires-2 c κs = search needs
+
+-- where the first line is written
+change-at : (c : tie.After-put-line) → (c .put-line .result ≡ 0 + length (changeLine (c .before .before .before .before .before .before .before .before .args .a) (c .before .before .before .before .before .before .before .before .args .b))) × (c .put-line .last .0 ≡ put (c .before .before .before .before .before .before .before .before .args .text .now) 0 (changeLine (c .before .before .before .before .before .before .before .before .args .a) (c .before .before .before .before .before .before .before .before .args .b))) × (length (changeLine (c .before .before .before .before .before .before .before .before .args .a) (c .before .before .before .before .before .before .before .before .args .b)) ≤ 19)
+change-at c =
+    let a = c .before .before .before .before .before .before .before .before .args in
+    let s = changeLine (a .a) (a .b) in
+    let p = c .put-line in
+    let q = change-line (a .a) (a .b) (c .before .before .before .before .before .wide .result) (c .before .before .before .before .wide2 .result) (c .before .before .before .before .before .wide .ensures .0) (c .before .before .before .before .wide2 .ensures .0) in
+    let r = change-room (a .a) (a .b) (omega arith) (omega arith) in
+    let h : 0 + length s ≤ length (a .text .now) = omega (arith, c .before .before .before .before .before .before .before .before .pre .2) in
+    (p .ensures .0 ∙ ap (next (a .text .now) 0) q ∙ next-fits (a .text .now) 0 s h, p .ensures .1 ∙ ap (written (a .text .now) 0) q ∙ written-fits (a .text .now) 0 s h, r)
+
+-- a table of thirty places has few tasks
+few-olds : (c : tie.Start) → c .args .olds .count ≤ 30
+few-olds c = few (c .args .olds) (sym (length-map (c .args .olds .tasks) _) ∙ c .good .1 .1 .1 .0 .1 .1 .0 .1 .0 .1) (c .pre .0)
+
+few-news : (c : tie.Start) → c .args .news .count ≤ 30
+few-news c = few (c .args .news) (sym (length-map (c .args .news .tasks) _) ∙ c .good .1 .1 .1 .1 .0 .1 .1 .0 .1 .0 .1) (c .pre .1)
+
+slice-aggregate-put-line : tie.Need-slice-aggregate-put-line
+slice-aggregate-put-line c = search needs
+
+slice-aggregate-put-line-2 : tie.Need-slice-aggregate-put-line-2
+slice-aggregate-put-line-2 c = search needs
+
+put-line-requires : tie.Need-put-line-requires
+put-line-requires c κs = search needs
+
+put-tasks-requires : tie.Need-put-tasks-requires
+put-tasks-requires c κs =
+    let e = change-at (c .before .before .before) in
+    (c .before .before .before .before .before .before .before .before .before .before .before .pre .0, omega (arith, e .0, e .2, few-olds (c .before .before .before .before .before .before .before .before .before .before .before), c .before .before .before .put-line .kept .0, c .before .before .before .before .before .before .before .before .before .before .before .pre .2), omega (arith, few-olds (c .before .before .before .before .before .before .before .before .before .before .before), c .before .before .before .before .before .before .before .before .before .before .before .pre .3))
+
+put-tasks-requires-2 : tie.Need-put-tasks-requires-2
+put-tasks-requires-2 c κs =
+    let e = change-at (c .before .before .before .before .before .before .before) in
+    let p = c .before .before .before .put-tasks in
+    (c .before .before .before .before .before .before .before .before .before .before .before .before .before .before .before .pre .1, omega (arith, e .0, e .2, few-olds (c .before .before .before .before .before .before .before .before .before .before .before .before .before .before .before), few-news (c .before .before .before .before .before .before .before .before .before .before .before .before .before .before .before), p .ensures .0 .1, p .kept .0, c .before .before .before .before .before .before .before .put-line .kept .0, c .before .before .before .before .before .before .before .before .before .before .before .before .before .before .before .pre .2), omega (arith, few-olds (c .before .before .before .before .before .before .before .before .before .before .before .before .before .before .before), few-news (c .before .before .before .before .before .before .before .before .before .before .before .before .before .before .before), c .before .before .before .before .before .before .before .before .before .before .before .before .before .before .before .pre .3))
+
+same-length : tie.Need-same-length
+same-length c = search needs
+
+returns : tie.Need-returns
+returns c =
+    let a = c .before .before .before .before .before .before .before .before .before .before .before .before .before .before .before .before .before .before .args in
+    let e = change-at (c .before .before .before .before .before .before .before .before .before .before) in
+    let p = c .before .before .before .before .before .before .put-tasks in
+    let q = c .before .before .put-tasks2 in
+    let n = tasks-length (a .olds) (c .before .before .before .before .before .before .before .before .before .before .before .before .before .before .before .before .before .before .pre .0) in
+    let m = ap (λ (j : ℕ). taskLines (a .report .now) j (tasksOf (a .news))) (sym n) in
+    let l = done-long (a .a) (a .b) (tasksOf (a .olds)) (tasksOf (a .news)) (a .report .now) in (
+      (omega (arith, e .0, p .ensures .0 .0, q .ensures .0 .0, ap length m), omega (arith, e .0, e .2, p .ensures .0 .1, q .ensures .0 .1, few-olds (c .before .before .before .before .before .before .before .before .before .before .before .before .before .before .before .before .before .before), few-news (c .before .before .before .before .before .before .before .before .before .before .before .before .before .before .before .before .before .before))),
+      done-built (a .a) (a .b) (tasksOf (a .olds)) (tasksOf (a .news)) (a .report .now) (a .text .now) (c .before .before .before .before .before .before .before .before .before .before .put-line .last .0) (p .last .0) (q .last .0) (c .before .before .before .before .before .before .before .before .before .before .put-line .result) (p .result) (e .1) (e .0) (p .ensures .1) (p .ensures .0 .0) (q .ensures .1 ∙ ap (put (p .last .0) (p .result)) m),
+    )
+
+pub put-done-spec : {M : Type 1} → statement M
+put-done-spec =
+    tie.close
+    (tie.spec
+    wide-requires
+    wide-requires-2
+    slice-aggregate-put-line
+    slice-aggregate-put-line-2
+    put-line-requires
+    put-tasks-requires
+    put-tasks-requires-2
+    same-length
+    returns)
