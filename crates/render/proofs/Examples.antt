@@ -16,7 +16,7 @@ use Rattle.window.specs.Order.{rank}
 use Rattle.window.specs.Demand.{sumAbove, steadyDemand, phaseDemand, requestDemand}
 use Rattle.window.specs.Worst.{takeOf, nextOf, sweep}
 use Rattle.rows.specs.Row.{rowOf}
-use Rattle.pair.specs.Analysis.{analyseOf}
+use Rattle.pair.specs.Analysis.{analyseOf, pairOf}
 use Rattle.render.specs.Printed.{oldBlock, newBlock, found, modeHeld, tasksHeld, refusedLine, changeLine, letterOf, taskLine, taskLines, doneLines, linesOf, printed}
 
 -- kind, priority, number, T, D, C, Y
@@ -50,5 +50,5 @@ unfoldable pub refused1100 : List ℕ
 refused1100 = 114 ∷ 101 ∷ 102 ∷ 117 ∷ 115 ∷ 101 ∷ 100 ∷ 32 ∷ 49 ∷ 32 ∷ 49 ∷ 32 ∷ 48 ∷ 32 ∷ 48 ∷ 10 ∷ []
 
 pub examples : (printed (caseA 20) ≡ caseALines) × (printed (caseA 8) ≡ refused9011) × (printed (caseA 20 ++ (0 ∷ [])) ≡ refused1100)
-unfolding printed oldBlock newBlock found caseA caseALines refused9011 refused1100 olds news task blockOf headOf bodyOf recordOf wordSum readingOf blockVerdict headChecks headed taskChecks kindOn taskOf every any alike analyseOf linesOf doneLines changeLine refusedLine taskLines taskLine letterOf modeHeld tasksHeld lineOf restOf spaced decimal digits upTo firstOf rowOf steadyDemand phaseDemand requestDemand sumAbove sumOf rank jobsIn cutIn ceil windowOf firstWhere sweep nextOf takeOf flatMap
+unfolding printed oldBlock newBlock found caseA caseALines refused9011 refused1100 olds news task blockOf headOf bodyOf recordOf wordSum readingOf blockVerdict headChecks headed taskChecks kindOn taskOf every any alike analyseOf pairOf linesOf doneLines changeLine refusedLine taskLines taskLine letterOf modeHeld tasksHeld lineOf restOf spaced decimal digits upTo firstOf rowOf steadyDemand phaseDemand requestDemand sumAbove sumOf rank jobsIn cutIn ceil windowOf firstWhere sweep nextOf takeOf flatMap
 examples = (refl, refl, refl)

@@ -1,5 +1,4 @@
 -- The lines of what the analysis of the two parts finds.
-use Prim.Native.Nat.{_-_}
 use mathlib.Core.Path.{_≡_, refl, sym, ap, _∙_}
 use lib.ListN.{length}
 use Rattle.lines.specs.Put.{put}
