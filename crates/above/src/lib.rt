@@ -1,12 +1,11 @@
 // The tasks above a rank, as flat terms. A table is rolled out once, each row gathers from the roll.
 ghost use mathlib.Core.Path.{_≡_};
-ghost use Prim.Native.Nat.{ℕ, _+_, _*_, _≤_, _<_};
+ghost use Prim.Native.Nat.{_+_, _*_, _≤_, _<_};
 ghost use mathlib.Core.Bool.{cond};
 ghost use lib.ListN.{length};
 ghost use lib.Dec.{eqb, ltb};
-ghost use Rattle.base.proofs.Recip.{recipOf};
 ghost use Rattle.window.specs.Order.{rank};
-ghost use Rattle.above.specs.Roll.{one, markOf, Periodic, Rolled, entered, rollOf, countAbove, placed, termsAbove, leftAbove};
+ghost use Rattle.above.specs.Roll.{one, Periodic, Rolled, entered, rollOf, countAbove, placed, termsAbove, leftAbove};
 use block::Table;
 use block::Task;
 

@@ -49,10 +49,6 @@ drop-zeros zero m = let e : m - 0 ≡ m = omega arith in rw e
 drop-zeros (suc n) zero = let e : 0 - suc n ≡ 0 = omega arith in rw e
 drop-zeros (suc n) (suc m) = let e : suc m - suc n ≡ m - n = omega arith in rw e (drop-zeros n m)
 
-pub padded-length : (l : List ℕ) → length l ≤ 180 → length (padded l) ≡ 180
-unfolding padded
-padded-length l h = simp (length-append, length-replicate) (omega arith)
-
 padded-sets : (l vs : List ℕ) → length l + length vs ≤ 180 → sets (padded l) (length l) vs ≡ padded (l ++ vs)
 unfolding padded
 padded-sets l vs h =

@@ -1,6 +1,6 @@
 // Demands over flat terms, and the next phase at which the old terms grow. Divides by reciprocals, knows no task.
 ghost use mathlib.Core.Path.{_≡_};
-ghost use Prim.Native.Nat.{ℕ, _+_, _*_, _/_, _<_, _≤_, _-_, min};
+ghost use Prim.Native.Nat.{_+_, _*_, _/_, _<_, _≤_, _-_, min};
 ghost use Rattle.base.specs.Numbers.{jobsIn, cutIn};
 ghost use Rattle.base.proofs.Recip.{recipOf};
 ghost use Rattle.term.specs.Terms.{Good, Ready, before, oldSum, newSum, flatDemand, growsBy, nextOf, nextPhase};
