@@ -1,0 +1,121 @@
+#!/bin/sh
+# Builds the examples in C with the kit's clang and linker, and runs them: check_pair on blocks, against what the command
+# prints for them; write_block on the examples' tables, against the blocks that make-block made of them. Then holds header
+# and examples against the C and C++ compilers of this system, where there are any; where not, a line says so.
+#
+# Needed: rt, the built program report, and the library (rt staticlib visnumar).
+set -eu
+here=$(CDPATH='' cd -- "$(dirname -- "$0")" && pwd -P)
+root=$(dirname -- "$here")
+cd "$root"
+archive=target/staticlib/libvisnumar.a
+test -f $archive || { echo "c-example: $archive is missing: run 'rt staticlib visnumar' in $root" >&2; exit 1; }
+work=$(mktemp -d)
+trap 'rm -rf "$work"' EXIT
+trap 'exit 1' HUP INT TERM
+strict="-std=c99 -Wall -Wextra -Wconversion -Werror"
+
+kit=$(dirname -- "$(dirname -- "$(rt doc)")")
+processor=$(uname -m)
+tools=$kit/on/$processor/toolchain
+for name in check_pair write_block; do
+    # shellcheck disable=SC2086 # words
+    "$tools/bin/clang" --target=x86_64-unknown-linux-gnu -nostdinc -isystem tests/c-headers -Iinclude $strict -O2 -fPIE \
+        -c examples/$name.c -o "$work/$name.o"
+    "$kit/on/$processor/bin/rattle-link" --target x86_64-unknown-linux-gnu --toolchain "$tools" -o "$work/$name" \
+        "$work/$name.o" $archive >"$work/log" 2>&1 || { cat "$work/log"; exit 1; }
+done
+
+# Both ways of judging one pair of files, after a call to check_pair as $1.
+same() {
+    wanted=0
+    bin/visnumar judge "$2" "$3" >"$work/wanted" || wanted=$?
+    got=0
+    $1 "$2" "$3" >"$work/got" || got=$?
+    cmp "$work/got" "$work/wanted"
+    test $got = $wanted || { echo "check_pair $2 $3: status $got, the command's is $wanted"; exit 1; }
+}
+
+# All pairs of files that the tests have.
+pairs() {
+    count=0
+    for old in examples/*-old.blk; do
+        same "$1" "$old" "${old%-old.blk}-new.blk"
+        count=$((count + 1))
+    done
+    for input in tests/command/*.blk; do
+        head -c 512 "$input" >"$work/old"
+        tail -c +513 "$input" >"$work/new"
+        same "$1" "$work/old" "$work/new"
+        count=$((count + 1))
+    done
+    same "$1" tests/command/short-new.blk tests/command/only-old.blk
+    echo "check_pair $2: $((count + 1)) pairs as the command judges them"
+}
+
+pairs "bin/run-built $work/check_pair" "by the kit"
+if bin/run-built "$work/check_pair" examples/no-such-file.blk examples/pump-new.blk 2>"$work/said"; then exit 1; fi
+echo "check_pair: examples/no-such-file.blk can't be read" | cmp - "$work/said"
+
+count=0
+for table in examples/*.txt; do
+    for side in 0 1; do
+        # A table's columns are letter, number, T, D, C, priority, Y; a list's kind, priority, number, T, D, C, Y.
+        words=$(sed 's/#.*//' "$table" | awk -v side=$side '
+            $1 == "change" { printf "%s", $(2 + side) }
+            $1 ~ /^[oan]$/ && ($1 == "n") == side { printf " %d %d %d %d %d %d %d", index("oan", $1) - 1, $6, $2, $3, $4, $5, $7 }')
+        # shellcheck disable=SC2086 # words
+        bin/run-built "$work/write_block" $side $words >"$work/block"
+        if test $side = 0; then kept=${table%.txt}-old.blk; else kept=${table%.txt}-new.blk; fi
+        cmp "$work/block" "$kept"
+        count=$((count + 1))
+    done
+done
+# Each refusal of the writer that these words can bring: 11, 4 twice, 5 and 6. The block's length is always right.
+writer() {
+    wanted=$1
+    shift
+    if bin/run-built "$work/write_block" "$@" >"$work/block" 2>"$work/said" || test -s "$work/block"; then
+        echo "write_block $*: not refused"
+        exit 1
+    fi
+    echo "write_block: refused $wanted" | cmp - "$work/said"
+}
+writer "11 2 0 0" 0 1 0 1
+writer "4 2 0 0" 2 1
+# shellcheck disable=SC2046 # words
+writer "4 1 0 0" 1 1 $(awk 'BEGIN { for (k = 0; k < 31; k++) print 2, k, k, 1, 1, 1, 0 }')
+writer "5 0 1 0" 0 1 0 1 1 10 10 2 0 0 2 2 10 11 2 0
+writer "6 1 1 0" 1 1 2 1 1 10 10 2 0 2 1 2 10 10 2 0
+echo "write_block by the kit: $count blocks as make-block makes them, 5 refusals"
+
+cat >"$work/header.cc" <<'END'
+#include "visnumar.h"
+int main() {
+    uint32_t report[1] = {7};
+    const uint8_t none[1] = {0};
+    visnumar_answer answer = visnumar_analyse(none, 0, none, 0, report, 0);
+    return !(answer.code == VISNUMAR_BAD_LENGTH && answer.side == VISNUMAR_OLD && report[0] == 7);
+}
+END
+if command -v cc >/dev/null; then
+    for name in check_pair write_block; do
+        # shellcheck disable=SC2086 # words
+        cc $strict -pedantic -Iinclude -O2 -c examples/$name.c -o "$work/$name.here.o"
+    done
+    if test "$processor" = x86_64; then
+        cc -o "$work/check_pair.here" "$work/check_pair.here.o" $archive
+        pairs "$work/check_pair.here" "by this system's cc"
+    else
+        echo "c-example: compiled by this system's cc too, not linked: the library is for x86-64"
+    fi
+else
+    echo "c-example: no cc on this system; header and examples not tried with it"
+fi
+if command -v c++ >/dev/null; then
+    c++ -std=c++11 -Wall -Wextra -pedantic -Werror -Iinclude -c "$work/header.cc" -o "$work/header.o"
+    if test "$processor" = x86_64; then c++ -o "$work/header" "$work/header.o" $archive && "$work/header"; fi
+    echo "c-example: the header is C++ too"
+else
+    echo "c-example: no c++ on this system; header not tried with it"
+fi

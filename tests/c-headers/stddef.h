@@ -1,0 +1,6 @@
+/* What the C examples need of <stddef.h>: the kit's clang comes without headers for x86-64. */
+#ifndef STDDEF_H
+#define STDDEF_H
+typedef __SIZE_TYPE__ size_t;
+#define NULL ((void *)0)
+#endif
