@@ -114,7 +114,10 @@ else
 fi
 if command -v c++ >/dev/null; then
     c++ -std=c++11 -Wall -Wextra -pedantic -Werror -Iinclude -c "$work/header.cc" -o "$work/header.o"
-    if test "$processor" = x86_64; then c++ -o "$work/header" "$work/header.o" $archive && "$work/header"; fi
+    if test "$processor" = x86_64; then
+        c++ -o "$work/header" "$work/header.o" $archive
+        "$work/header"
+    fi
     echo "c-example: the header is C++ too"
 else
     echo "c-example: no c++ on this system; header not tried with it"
