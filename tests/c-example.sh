@@ -26,34 +26,7 @@ for name in check_pair write_block; do
         "$work/$name.o" $archive >"$work/log" 2>&1 || { cat "$work/log"; exit 1; }
 done
 
-# Both ways of judging one pair of files, after a call to check_pair as $1.
-same() {
-    wanted=0
-    bin/visnumar judge "$2" "$3" >"$work/wanted" || wanted=$?
-    got=0
-    $1 "$2" "$3" >"$work/got" || got=$?
-    cmp "$work/got" "$work/wanted"
-    test $got = $wanted || { echo "check_pair $2 $3: status $got, the command's is $wanted"; exit 1; }
-}
-
-# All pairs of files that the tests have.
-pairs() {
-    count=0
-    for old in examples/*-old.blk; do
-        same "$1" "$old" "${old%-old.blk}-new.blk"
-        count=$((count + 1))
-    done
-    for input in tests/command/*.blk; do
-        head -c 512 "$input" >"$work/old"
-        tail -c +513 "$input" >"$work/new"
-        same "$1" "$work/old" "$work/new"
-        count=$((count + 1))
-    done
-    same "$1" tests/command/short-new.blk tests/command/only-old.blk
-    echo "check_pair $2: $((count + 1)) pairs as the command judges them"
-}
-
-pairs "bin/run-built $work/check_pair" "by the kit"
+tests/same-verdicts.sh "check_pair by the kit" bin/run-built "$work/check_pair"
 if bin/run-built "$work/check_pair" examples/no-such-file.blk examples/pump-new.blk 2>"$work/said"; then exit 1; fi
 echo "check_pair: examples/no-such-file.blk can't be read" | cmp - "$work/said"
 
@@ -105,7 +78,7 @@ if command -v cc >/dev/null; then
     done
     if test "$processor" = x86_64; then
         cc -o "$work/check_pair.here" "$work/check_pair.here.o" $archive
-        pairs "$work/check_pair.here" "by this system's cc"
+        tests/same-verdicts.sh "check_pair by this system's cc" "$work/check_pair.here"
     else
         echo "c-example: compiled by this system's cc too, not linked: the library is for x86-64"
     fi
