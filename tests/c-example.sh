@@ -15,6 +15,7 @@ trap 'rm -rf "$work"' EXIT
 trap 'exit 1' HUP INT TERM
 strict="-std=c99 -Wall -Wextra -Wconversion -Werror"
 
+command -v rt >/dev/null || { echo "c-example: rt is not on the PATH; its kit has the compiler and linker" >&2; exit 1; }
 kit=$(dirname -- "$(dirname -- "$(rt doc)")")
 processor=$(uname -m)
 tools=$kit/on/$processor/toolchain

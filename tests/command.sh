@@ -87,6 +87,7 @@ transcript() {
     show "visnumar judge $pump >/dev/full 2>/dev/null"
     show "visnumar explain $pump >/dev/full 2>/dev/null"
     show "visnumar judge <&- 2>/dev/null"
+    show "visnumar judge <. 2>/dev/null"
     show "visnumar --help"
     show "visnumar judge --help"
     show "visnumar --version"

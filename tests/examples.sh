@@ -66,10 +66,15 @@ refuse 'change 1 2\nx 1 10 10 2 1 0\n' "line 2: not 'o', 'a' or 'n' and six numb
 refuse 'change 1 2\nn 1 10 10 2 256 0\n' "line 2: priority is 256, above 255"
 refuse 'change 1 2\nn 1 10 -10 2 1 0\n' "line 2: D is '-10', not a whole number"
 refuse 'change 1 2\nn 1 10 10 2 1 65536\n' "line 2: Y is 65536, above 65535"
+refuse 'change 1 2\nn 1 10 99999999999999999999 2 1 0\n' "line 2: D is 99999999999999999999, above 65535"
 many=$(awk 'BEGIN { for (k = 1; k <= 31; k++) printf "o %d 1 1 1 %d 0\\n", k, k }')
 refuse "change 1 2\\n$many" "line 32: a side has room for 30 tasks"
 if "$examples/make-block" "$work/none" 2>/dev/null; then
     echo "make-block took a file that is not there"
+    status=1
+fi
+if "$examples/make-block" "$examples/pump.txt" 2>/dev/null >/dev/full; then
+    echo "make-block did not see that its output was lost"
     status=1
 fi
 test $status != 0 || echo "examples: every block, row and refusal as committed"
