@@ -4,3 +4,4 @@ pub mod Heads
 pub mod Zeros
 pub mod Reading
 pub mod Unique
+pub mod Kept

@@ -1,0 +1,55 @@
+# make run    prove, build and show the main job: the pump loader's pair, judged and explained
+# make test   the whole gate; its last line is that of rt ci
+# make lib    target/staticlib/libvisnumar.a, for C and Rust to link with include/visnumar.h
+# make bench  the proved library beside plain C, as ratios (docs/BENCH.md)
+# make soak   random inputs against the second program for SECONDS (60)
+.POSIX:
+.PHONY: run test setup text programs library lib bench soak clean
+SECONDS = 60
+
+run: setup
+	@rt check report
+	@echo
+	bin/visnumar judge examples/pump-old.blk examples/pump-new.blk
+	@echo
+	bin/visnumar explain examples/pump-old.blk examples/pump-new.blk
+
+test: setup text programs library
+	rt ci
+
+setup:
+	@tools/setup
+
+# What needs no build.
+text:
+	rt fmt --check
+	tests/contracts .
+	tests/scripts.sh
+
+# What users run, and the comparison with the second program.
+programs: setup
+	rt check report batch
+	tests/picture.sh
+	tests/command.sh
+	tests/examples.sh
+	tests/pages.py README.md docs/USING.md examples/*.md
+	tests/second/cases.sh "bin/run-built batch"
+	tests/second/compare.sh "bin/run-built batch" batch 20000
+	tests/runs/play.sh "bin/run-built batch"
+
+library: lib programs
+	tests/c-example.sh
+	tests/rust-page.sh
+
+lib: setup
+	rt staticlib visnumar
+
+bench: lib
+	bench/run.sh
+
+soak: setup
+	rt check batch
+	tests/soak.sh $(SECONDS)
+
+clean:
+	rm -rf target
