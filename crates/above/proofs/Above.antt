@@ -13,7 +13,6 @@ use Rattle.base.proofs.Sums.{sum-eq}
 use Rattle.base.proofs.Recip.{recipOf}
 use Rattle.block.specs.declared.Task.{Task}
 use Rattle.block.specs.Checks.{noTask}
-use Rattle.window.specs.Order.{kindAt, sideOf}
 use Rattle.term.specs.Terms.{Good, Ready, shareOf}
 use Rattle.term.proofs.Terms.{sum-more}
 use Rattle.above.specs.Roll.{one, sixOf, entered, rollOf, Rolled, isAbove, countAbove, placed, termsAbove, entryOf}
@@ -31,18 +30,6 @@ sets-at l at (v ∷ vs) zero h f =
 sets-at l at (v ∷ vs) (suc k) h f =
     let e : at + suc k ≡ suc at + k = omega arith in
     rw e (sets-at (set l at v) (suc at) vs k (omega arith) (simp length-set (omega arith)))
-
--- ---- sides and marks of kinds
-
-pub side-old : (k : ℕ) → k < 2 → sideOf (kindAt k) ≡ 0
-side-old zero h = refl
-side-old (suc zero) h = refl
-side-old (suc (suc k)) h = absurd (omega arith)
-
-pub side-new : (k : ℕ) → 2 ≤ k → sideOf (kindAt k) ≡ 1
-side-new zero h = absurd (omega arith)
-side-new (suc zero) h = absurd (omega arith)
-side-new (suc (suc k)) h = refl
 
 -- ---- rolls
 

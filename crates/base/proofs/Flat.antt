@@ -1,10 +1,10 @@
 -- Up to the end of x's period an old task's part does not grow, once its whole time is counted at x.
 use Prim.Native.Nat.{ℕ, _+_, _*_, _/_, _%_, _-_, _≤_, _<_, min}
 use mathlib.Core.Path.{_≡_, ap}
-use mathlib.Core.Logic.{_⊎_, inl, inr, ⊎-elim}
+use mathlib.Core.Logic.{⊎-elim}
 use native.Mathlib.Omega.{arith}
-use native.Mathlib.Nat.{le-div-iff-mul-le, div-lt-iff-lt-mul, mul-le-mul-right, div-add-mod', add-mul, lt-of-not-le, le-of-mul-le-mul-right}
-use native.Mathlib.Decide.{decLe}
+use native.Mathlib.Nat.{le-div-iff-mul-le, div-lt-iff-lt-mul, mul-le-mul-right, div-add-mod', add-mul, le-of-mul-le-mul-right}
+use Rattle.base.proofs.Search.{le-or-lt}
 use Rattle.base.specs.Numbers.{ceil, jobsIn, cutIn}
 
 module _ (p c x y : ℕ) (some : 1 ≤ p) (near : y ≤ x - x % p + p) where
@@ -22,9 +22,6 @@ module _ (p c x y : ℕ) (some : 1 ≤ p) (near : y ≤ x - x % p + p) where
   unfolding cutIn
   cut-flat h = ⊎-elim low high (le-or-lt (y / p) (x / p))
     where
-      le-or-lt : (a b : ℕ) → (a ≤ b) ⊎ (b < a)
-      le-or-lt a b = elim (decLe a b) [ yes l ↦ inl l | no n ↦ inr (lt-of-not-le n) ]
-
       low : y / p ≤ x / p → y / p * c + min c (y % p) ≤ x / p * c + min c (x % p)
       low l = omega (arith, mul-le-mul-right c l)
 

@@ -97,6 +97,14 @@ pub cut-is : (T C t k r : ℕ) → r < T → t ≡ k * T + r → cutIn T C t ≡
 unfolding cutIn
 cut-is T C t k r h e = rw (e, digits-div k h, digits-mod k h)
 
+-- a cut-off job is no more than the whole one
+pub cut-le : (T C t : ℕ) → 0 < T → cutIn T C t ≤ jobsIn T C t
+cut-le T C t p = go (digits T t p .k) (digits T t p .r) (digits T t p .low) (digits T t p .is)
+  where
+    go : (k r : ℕ) → r < T → t ≡ k * T + r → cutIn T C t ≤ jobsIn T C t
+    go k zero l e = omega (arith, cut-is T C t k 0 l e, jobs-whole T C t k p e)
+    go k (suc r) l e = omega (arith, cut-is T C t k (suc r) l e, jobs-begun T C t k r (omega arith) e)
+
 -- where a cut-off job is not yet whole, the last tick was its own
 pub cut-grows : (T C t : ℕ) → 0 < T → cutIn T C (suc t) < jobsIn T C (suc t) → cutIn T C t < cutIn T C (suc t)
 cut-grows T C t p h = go (digits T (suc t) p .k) (digits T (suc t) p .r) (digits T (suc t) p .low) (digits T (suc t) p .is)

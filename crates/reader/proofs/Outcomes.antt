@@ -4,13 +4,12 @@ use mathlib.Core.Path.{_≡_}
 use mathlib.Core.List.{List, _++_}
 use lib.ListN.{length, drop}
 use borrow.Author.Tests.{lt-ltb, le-ltb}
-use Rattle.base.proofs.Lists.{up-length}
+use Rattle.block.proofs.Reading.{tasks-long}
 use Rattle.block.specs.declared.Answer.{Answer}
 use Rattle.block.specs.declared.Verdict.the-variants.{Passed, Refused}
 use Rattle.block.specs.Format.{listSize}
-use Rattle.block.specs.Record.{taskOf}
 use Rattle.block.specs.Answers.{answer}
-use Rattle.block.specs.Block.{recordPart, tasksIn, countByte, modeNumber, blockVerdict, readingOf, listOf, Read, readOf}
+use Rattle.block.specs.Block.{tasksIn, countByte, modeNumber, blockVerdict, readingOf, listOf, Read, readOf}
 
 -- an answer and a list, as an outcome
 abbrev pub outcome : Answer → List ℕ → Read
@@ -25,14 +24,11 @@ module _ (side : ℕ) (b l : List ℕ) where
   unfolding readOf readingOf
   read-refused a e = rw e
 
-  tasks-long : length (tasksIn b (countByte b)) ≡ countByte b
-  tasks-long = up-length (λ k. taskOf (recordPart b k)) (countByte b)
-
   pub read-short : blockVerdict side b ≡ Passed → length l < listSize * countByte b → readOf side b l ≡ outcome (answer 8 2 0 0) l
   unfolding readOf readingOf
-  read-short e h = rw (e, tasks-long, lt-ltb _ _ h)
+  read-short e h = rw (e, tasks-long b, lt-ltb _ _ h)
 
   pub read-done : blockVerdict side b ≡ Passed → listSize * countByte b ≤ length l
       → readOf side b l ≡ outcome (answer 0 side (countByte b) (modeNumber b)) (listOf (tasksIn b (countByte b)) ++ drop (listSize * countByte b) l)
   unfolding readOf readingOf
-  read-done e h = rw (e, tasks-long, le-ltb _ _ h)
+  read-done e h = rw (e, tasks-long b, le-ltb _ _ h)

@@ -21,7 +21,9 @@ use Rattle.rows.specs.Flat.{Tells}
 use Rattle.rows.specs.Row.{rowOf}
 use Rattle.rows.specs.Rows.{rowNumbers, rowsOf, lateCheck, lateChecks, rowsBy, rowsFound}
 use Rattle.rows.specs.Fill.{Timed, checksOf, numbersOf, padded, Filled}
-use Rattle.rows.proofs.Laid.{first-passed, first-refused, flat-append, numbers-length}
+use Rattle.base.proofs.Lists.{flat-append}
+use Rattle.block.proofs.Verdicts.{first-on, first-stop}
+use Rattle.rows.proofs.Laid.{numbers-length}
 
 -- ---- a sound table
 
@@ -85,11 +87,11 @@ module _ (olds news : Table) (so : Sound 0 olds) (sn : Sound 1 news) (o w : List
   pub late-old : (entry exit : List ℕ) (a : Answer) → OldFill entry exit (Refused a) → rowsFound xs ys ≡ rowsBy (Refused a) []
   unfolding rowsFound
   late-old entry exit a f =
-      ap (λ (v : Verdict). rowsBy v (rowsOf xs ys)) (ap firstOf late-is ∙ first-refused a oldChecks newChecks (sym (f .verdict xs ys to tn (so .legal) (sn .legal))))
+      ap (λ (v : Verdict). rowsBy v (rowsOf xs ys)) (ap firstOf late-is ∙ first-stop oldChecks newChecks a (sym (f .verdict xs ys to tn (so .legal) (sn .legal))))
 
   module _ (entry mid : List ℕ) (f : OldFill entry mid Passed) where
     passed : firstOf (lateChecks xs ys) ≡ firstOf newChecks
-    passed = ap firstOf late-is ∙ first-passed oldChecks newChecks (sym (f .verdict xs ys to tn (so .legal) (sn .legal)))
+    passed = ap firstOf late-is ∙ first-on oldChecks newChecks (sym (f .verdict xs ys to tn (so .legal) (sn .legal)))
 
     pub late-new : (entry′ exit : List ℕ) (a : Answer) → NewFill entry′ exit (Refused a) → rowsFound xs ys ≡ rowsBy (Refused a) []
     unfolding rowsFound

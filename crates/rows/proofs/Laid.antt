@@ -8,10 +8,11 @@ use native.Mathlib.Omega.{arith}
 use native.Mathlib.Numerals.{add-one}
 use native.Mathlib.Nat.{add-zero, add-suc}
 use Rattle.base.specs.Lists.{upTo}
+use Rattle.base.proofs.Lists.{flat-append}
+use Rattle.block.proofs.Verdicts.{first-on, first-stop}
 use Rattle.block.specs.declared.Task.{Task}
 use Rattle.block.specs.declared.Table.{Table}
 use Rattle.block.specs.declared.Answer.{Answer}
-use Rattle.block.specs.declared.Verdict.{Verdict}
 use Rattle.block.specs.declared.Verdict.the-variants.{Passed, Refused}
 use Rattle.block.specs.Answers.{answer, firstOf}
 use Rattle.block.specs.Checks.{noTask}
@@ -23,26 +24,7 @@ use Rattle.rows.specs.Row.{rowOf}
 use Rattle.rows.specs.Rows.{rowNumbers, lateCheck}
 use Rattle.rows.specs.Fill.{checksOf, numbersOf, padded, Going, Filled}
 
--- ---- checks in order
-
-pub first-passed : (vs ws : List Verdict) → firstOf vs ≡ Passed → firstOf (vs ++ ws) ≡ firstOf ws
-unfolding firstOf
-first-passed [] ws e = refl
-first-passed (Passed ∷ vs) ws e = first-passed vs ws e
-first-passed (Refused a ∷ vs) ws e = let z : _≡_ {A = ℕ} 0 1 = cc in absurd (omega arith)
-
-pub first-refused : (a : Answer) (vs ws : List Verdict) → firstOf vs ≡ Refused a → firstOf (vs ++ ws) ≡ Refused a
-unfolding firstOf
-first-refused a [] ws e = let z : _≡_ {A = ℕ} 0 1 = cc in absurd (omega arith)
-first-refused a (Passed ∷ vs) ws e = first-refused a vs ws e
-first-refused a (Refused b ∷ vs) ws e = e
-
 -- ---- numbers laid out
-
-pub flat-append : {A : Type 0} (f : A → List ℕ) (xs ys : List A) → flatMap f (xs ++ ys) ≡ flatMap f xs ++ flatMap f ys
-unfolding flatMap
-flat-append f [] ys = refl
-flat-append f (x ∷ xs) ys = rw (flat-append f xs ys) (sym (append-assoc (f x) (flatMap f xs) (flatMap f ys)))
 
 drop-zeros : (n m : ℕ) → drop n (replicate {A = ℕ} m 0) ≡ replicate (m - n) 0
 drop-zeros zero m = let e : m - 0 ≡ m = omega arith in rw e
@@ -82,7 +64,7 @@ module _ (xs ys own : List Task) where
     -- later tasks change nothing
     late-stays : (a : Answer) (j k : ℕ) → firstOf (checksOf xs ys own code side j) ≡ Refused a → firstOf (checksOf xs ys own code side (j + k)) ≡ Refused a
     late-stays a j zero e = rw add-zero e
-    late-stays a j (suc k) e = rw (add-suc, checks-more (j + k)) (first-refused a (checksOf xs ys own code side (j + k)) _ (late-stays a j k e))
+    late-stays a j (suc k) e = rw (add-suc, checks-more (j + k)) (first-stop (checksOf xs ys own code side (j + k)) _ a (late-stays a j k e))
 
 -- ---- one table's tasks, one after the other
 
@@ -99,7 +81,7 @@ module _ (o : List ℕ) (n : ℕ) (w : List ℕ) (k : ℕ) (own : Table) (start 
     unfolding firstOf
     going-more r h row =
         record {
-          checks = λ xs ys t u a b. rw (add-one, checks-more xs ys (own .tasks) code side j, first-passed (checksOf xs ys (own .tasks) code side j) (lateCheck code side j (rowOf xs ys (task j)) ∷ []) (going .checks xs ys t u a b), sym (row xs ys t u a b));
+          checks = λ xs ys t u a b. rw (add-one, checks-more xs ys (own .tasks) code side j, first-on (checksOf xs ys (own .tasks) code side j) (lateCheck code side j (rowOf xs ys (task j)) ∷ []) (going .checks xs ys t u a b), sym (row xs ys t u a b));
           laid = λ xs ys t u a b front e f.
               let m : length (front ++ numbersOf xs ys (own .tasks) j) ≡ 3 * (start + j) = rw length-append (omega (arith, numbers-length xs ys (own .tasks) j (omega arith))) in
               rw (going .laid xs ys t u a b front e f, sym m, padded-sets (front ++ numbersOf xs ys (own .tasks) j) (rowNumbers (Timely r)) (omega arith), numbers-more xs ys (own .tasks) j inside, sym (row xs ys t u a b), append-assoc);
@@ -111,7 +93,7 @@ module _ (o : List ℕ) (n : ℕ) (w : List ℕ) (k : ℕ) (own : Table) (start 
         record {
           verdict = λ xs ys t u a b.
               let e : suc j + (own .count - suc j) ≡ own .count = omega arith in
-              let first : firstOf (checksOf xs ys (own .tasks) code side (suc j)) ≡ Refused (answer code side j d) = rw (checks-more xs ys (own .tasks) code side j, first-passed (checksOf xs ys (own .tasks) code side j) (lateCheck code side j (rowOf xs ys (task j)) ∷ []) (going .checks xs ys t u a b), sym (row xs ys t u a b)) in
+              let first : firstOf (checksOf xs ys (own .tasks) code side (suc j)) ≡ Refused (answer code side j d) = rw (checks-more xs ys (own .tasks) code side j, first-on (checksOf xs ys (own .tasks) code side j) (lateCheck code side j (rowOf xs ys (task j)) ∷ []) (going .checks xs ys t u a b), sym (row xs ys t u a b)) in
               sym (rw e at (late-stays xs ys (own .tasks) code side (answer code side j d) (suc j) (own .count - suc j) first));
           numbers = λ e. let z : _≡_ {A = ℕ} 0 1 = cc in absurd (omega arith);
         }

@@ -1,5 +1,5 @@
 -- The tasks of a pair of blocks that both read: what each keeps, and that no two have the same rank.
-use Prim.Native.Nat.{ℕ, zero, suc, _+_, _-_, _*_, _≤_, _<_}
+use Prim.Native.Nat.{ℕ, _+_, _-_, _*_, _≤_, _<_}
 use mathlib.Core.Path.{_≡_, refl, sym, ap, _∙_}
 use mathlib.Core.List.{List, _++_}
 use native.Mathlib.Decide.{decLt}
@@ -9,7 +9,8 @@ use lib.Seq.{getD-append-add}
 use Rattle.block.specs.declared.Task.{Task}
 use Rattle.block.specs.Checks.{noTask}
 use Rattle.block.specs.Legal.{Legal}
-use Rattle.window.specs.Order.{Kind, completed, aborted, new, kindAt, sideOf, rank}
+use Rattle.window.proofs.Sides.{side-old, side-new}
+use Rattle.window.specs.Order.{Kind, completed, aborted, new, rank}
 use Rattle.run.specs.Promise.{count, task}
 
 -- by kind, with the equation
@@ -25,14 +26,6 @@ pub record Sound (n : ℕ) (tk : ℕ → Task) : Type 0 where
   pub in-deadline : (i : ℕ) → i < n → tk i .execution ≤ tk i .deadline
   pub in-period : (i : ℕ) → i < n → tk i .deadline ≤ tk i .period
   pub ranks : (i j : ℕ) → i < n → j < n → rank (tk i) ≡ rank (tk j) → i ≡ j
-
-old-side : (k : ℕ) → k < 2 → sideOf (kindAt k) ≡ 0
-old-side zero h = refl
-old-side (suc zero) h = refl
-old-side (suc (suc k)) h = absurd (omega arith)
-
-new-side : (k : ℕ) → k ≡ 2 → sideOf (kindAt k) ≡ 1
-new-side k h = rw h
 
 -- a priority is borne at one place
 one-bears : (xs : List Task) → ((j k : ℕ) → j < k → k < length xs → task xs j .priority ≡ task xs k .priority → ⊥)
@@ -69,14 +62,14 @@ module _ (olds news : List Task) where
     -- old tasks have even ranks, new ones odd ones
     old-rank : (i : ℕ) → i < length olds → rank (task (olds ++ news) i) ≡ 2 * task olds i .priority
     unfolding rank
-    old-rank i l = rw (old-place i l) (omega (arith, old-side (task olds i .kind) (old-legal .rules i l .old refl)))
+    old-rank i l = rw (old-place i l) (omega (arith, side-old (task olds i .kind) (old-legal .rules i l .old refl)))
 
     new-rank : (i : ℕ) → i < count (olds ++ news) → ¬ (i < length olds) → rank (task (olds ++ news) i) ≡ 2 * task news (i - length olds) .priority + 1
     unfolding rank
     new-rank i l d =
         let e : length olds + (i - length olds) ≡ i = omega arith in
         ap (λ (k : ℕ). rank (task (olds ++ news) k)) (sym e)
-        ∙ rw (new-place (i - length olds)) (omega (arith, new-side (task news (i - length olds) .kind) (new-legal .rules (i - length olds) (omega (arith, length-append olds news)) .new refl)))
+        ∙ rw (new-place (i - length olds)) (omega (arith, side-new (task news (i - length olds) .kind) (omega (arith, new-legal .rules (i - length olds) (omega (arith, length-append olds news)) .new refl))))
 
     ranks : (i j : ℕ) → i < count (olds ++ news) → j < count (olds ++ news) → rank (task (olds ++ news) i) ≡ rank (task (olds ++ news) j) → i ≡ j
     ranks i j l h e =

@@ -2,3 +2,4 @@ pub mod Phases
 pub mod Steady
 pub mod Sweep
 pub mod Unique
+pub mod Sides

@@ -1,70 +1,24 @@
 -- Document 01: where the window closes before the request, it is the steady window. So a phase at or past the deadline gives the steady window again.
-use Prim.Native.Nat.{ℕ, zero, suc, _+_, _*_, _-_, _/_, _%_, _≤_, _<_, min}
-use mathlib.Core.Path.{_≡_, refl, sym, ap, _∙_}
+use Prim.Native.Nat.{ℕ, zero, suc, _+_, _-_, _≤_, _<_, min}
+use mathlib.Core.Path.{_≡_, refl, ap, _∙_}
 use mathlib.Core.Bool.{Bool, true, false, cond}
 use mathlib.Core.Logic.{inl, inr}
 use mathlib.Core.List.{List}
 use mathlib.Core.Option.{Option, none, some}
 use lib.ListN.{length, getD}
-use lib.Arith.{digits-div, digits-mod}
 use native.Mathlib.Omega.{arith}
-use native.Mathlib.Nat.{le-refl, eq-zero-or-pos, not-suc-le-zero, mod-lt, div-add-mod', zero-mul}
+use native.Mathlib.Nat.{le-refl, eq-zero-or-pos, not-suc-le-zero, zero-mul}
 use Rattle.base.specs.Sums.{sum}
-use Rattle.base.specs.Numbers.{ceil, jobsIn, cutIn}
+use Rattle.base.specs.Numbers.{ceil, jobsIn}
 use Rattle.base.specs.Search.{windowOf}
 use Rattle.base.proofs.Sums.{sum-le, sum-lt, sum-pos, sum-add, list-places, list-none}
-use Rattle.base.proofs.Numbers.{jobs-rise, cut-rises, ceil-zero}
+use Rattle.base.proofs.Numbers.{jobs-rise, cut-rises, ceil-zero, cut-le, cut-grows}
 use Rattle.base.proofs.Search.{Within, window-found, window-by}
 use Rattle.block.specs.declared.Task.{Task}
 use Rattle.block.specs.Checks.{noTask}
 use Rattle.block.specs.Legal.{Legal}
 use Rattle.window.specs.Order.{Kind, completed, aborted, new, kindAt, kindOf, above}
 use Rattle.window.specs.Demand.{sumAbove, jobs, oldTerm, steadyDemand, phaseDemand}
-
--- ---- a cut-off term beside the whole one
-
--- a number by its digits
-record Digits (t T : ℕ) : Type 0 where
-  k : ℕ
-  r : ℕ
-  low : r < T
-  is : t ≡ k * T + r
-
-digits : (t T : ℕ) → 1 ≤ T → Digits t T
-digits t T p = record { k = t / T; r = t % T; low = mod-lt t p; is = sym (div-add-mod' t T) }
-
-cut-at : (t k r T C : ℕ) → r < T → t ≡ k * T + r → cutIn T C t ≡ k * C + min C r
-unfolding cutIn
-cut-at t k r T C h e = rw (e, digits-div k h, digits-mod k h)
-
-jobs-at-zero : (t k T C : ℕ) → 1 ≤ T → t ≡ k * T + 0 → jobsIn T C t ≡ k * C
-unfolding jobsIn ceil
-jobs-at-zero t k T C h e =
-    let q : t + (T - 1) ≡ k * T + (T - 1) = omega arith in
-    rw (q, digits-div k {m = T} {r = T - 1} (omega arith))
-
-jobs-at : (t k r T C : ℕ) → r < T → t ≡ k * T + suc r → jobsIn T C t ≡ (k + 1) * C
-unfolding jobsIn ceil
-jobs-at t k r T C h e =
-    let q : t + (T - 1) ≡ suc k * T + r = omega arith in
-    let s : suc k ≡ k + 1 = omega arith in
-    rw (q, digits-div (suc k) h, s)
-
-cut-le : (t T C : ℕ) → 1 ≤ T → cutIn T C t ≤ jobsIn T C t
-cut-le t T C p = go (digits t T p .k) (digits t T p .r) (digits t T p .low) (digits t T p .is)
-  where
-    go : (k r : ℕ) → r < T → t ≡ k * T + r → cutIn T C t ≤ jobsIn T C t
-    go k zero l e = omega (arith, cut-at t k 0 T C l e, jobs-at-zero t k T C p e)
-    go k (suc r) l e = omega (arith, cut-at t k (suc r) T C l e, jobs-at t k r T C (omega arith) e)
-
--- where it is below, it has grown in the last tick
-cut-grows : (t T C : ℕ) → 1 ≤ T → cutIn T C (suc t) < jobsIn T C (suc t) → cutIn T C t < cutIn T C (suc t)
-cut-grows t T C p h = go (digits (suc t) T p .k) (digits (suc t) T p .r) (digits (suc t) T p .low) (digits (suc t) T p .is)
-  where
-    go : (k r : ℕ) → r < T → suc t ≡ k * T + r → cutIn T C t < cutIn T C (suc t)
-    go k zero l e = absurd (omega (arith, cut-at (suc t) k 0 T C l e, jobs-at-zero (suc t) k T C p e))
-    go k (suc r) l e =
-        omega (arith, cut-at (suc t) k (suc r) T C l e, cut-at t k r T C (omega arith) (omega arith), jobs-at (suc t) k r T C (omega arith) e)
 
 -- ---- the same for an old task
 
@@ -75,12 +29,12 @@ old-rises new x a b h = omega arith
 
 old-le : (k : ℕ) (x : Task) (t : ℕ) → k < 2 → 1 ≤ x .period → oldTerm (kindAt k) x t ≤ jobs x t
 old-le zero x t l p = le-refl (jobs x t)
-old-le (suc zero) x t l p = cut-le t (x .period) (x .execution) p
+old-le (suc zero) x t l p = cut-le (x .period) (x .execution) t p
 old-le (suc (suc k)) x t l p = absurd (omega arith)
 
 old-grows : (k : ℕ) (x : Task) (t : ℕ) → k < 2 → 1 ≤ x .period → oldTerm (kindAt k) x (suc t) < jobs x (suc t) → oldTerm (kindAt k) x t < oldTerm (kindAt k) x (suc t)
 old-grows zero x t l p h = absurd (omega arith)
-old-grows (suc zero) x t l p h = cut-grows t (x .period) (x .execution) p h
+old-grows (suc zero) x t l p h = cut-grows (x .period) (x .execution) t p h
 old-grows (suc (suc k)) x t l p h = absurd (omega arith)
 
 cond-le : (b : Bool) (m n : ℕ) → m ≤ n → cond b m 0 ≤ cond b n 0

@@ -1,7 +1,7 @@
 use borrow.Author.Needs.{needs}
 use native.Mathlib.Omega.{arith}
 use Rattle.window.specs.Order.{rank}
-use Rattle.above.proofs.Above.{side-old, side-new}
+use Rattle.window.proofs.Sides.{side-old, side-new}
 use Rattle.above.proofs.rank_of.Statement.{statement}
 use Rattle.above.proofs.rank_of.Tie as tie
 
