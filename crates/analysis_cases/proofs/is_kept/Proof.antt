@@ -1,0 +1,62 @@
+use Prim.Native.Nat.{_≤_, _-_}
+use mathlib.Core.Path.{_≡_}
+use lib.ListN.{length}
+use borrow.Author.Needs.{needs}
+use Rattle.analysis_cases.proofs.is_kept.Statement.{statement}
+use Rattle.analysis_cases.proofs.is_kept.Tie as tie
+use Rattle.analysis_cases.proofs.is_kept.Reads as reads
+use Rattle.analysis_cases.proofs.is_kept.Lts as lts
+use Rattle.analysis_cases.proofs.untouched.Reads as untouched-reads
+
+abbrev Inv-loop : tie.InvT-loop
+Inv-loop report i₀ i-end i = (i ≤ i-end) × (i-end ≡ length report)
+
+abbrev μ-loop : tie.MeasureT-loop
+μ-loop report i₀ i-end i = i-end - i
+
+loop-holds : tie.Need-loop-holds Inv-loop μ-loop
+loop-holds c = search needs
+
+mul-if1 : tie.Need-mul-if1 Inv-loop μ-loop
+mul-if1 c = search needs
+
+shared-slice-read-if1 : tie.Need-shared-slice-read-if1 Inv-loop μ-loop
+shared-slice-read-if1 c = search needs
+
+cast-untouched : tie.Need-cast-untouched Inv-loop μ-loop
+cast-untouched c = search needs
+
+untouched-requires : tie.Need-untouched-requires Inv-loop μ-loop
+untouched-requires c κs = search needs
+
+returns : tie.Need-returns Inv-loop μ-loop
+returns c = search needs
+
+add-i : tie.Need-add-i Inv-loop μ-loop
+add-i c = search needs
+
+loop-less : tie.Need-loop-less Inv-loop μ-loop
+loop-less c = search needs
+
+loop-again : tie.Need-loop-again Inv-loop μ-loop
+loop-again c = search needs
+
+returns-2 : tie.Need-returns-2 Inv-loop μ-loop
+returns-2 c = search needs
+
+pub is-kept-spec : {M : Type 1} → statement M
+is-kept-spec =
+    tie.close
+    (tie.spec
+    Inv-loop
+    μ-loop
+    loop-holds
+    mul-if1
+    shared-slice-read-if1
+    cast-untouched
+    untouched-requires
+    returns
+    add-i
+    loop-less
+    loop-again
+    returns-2)
