@@ -7,6 +7,7 @@ use lib.Dec.{eqb, ltb}
 use Rattle.base.specs.Lists.{part, any}
 use Rattle.block.specs.declared.Task.{Task}
 use Rattle.block.specs.declared.Verdict.{Verdict}
+use Rattle.block.specs.Format.{recordSize, zeroPlace}
 use Rattle.block.specs.Record.{taskOf, taskFrom, fits, allZero}
 use Rattle.block.specs.Answers.{refusal, refuse}
 
@@ -26,7 +27,7 @@ taskChecks side k x =
 
 -- those of a record of a block: its last four bytes are zero too
 abbrev pub recordChecks : ℕ → ℕ → List ℕ → List Verdict
-recordChecks side k r = taskChecks side k (taskOf r) ++ (refuse (not (allZero (part r 12 16))) (refusal 5 side k) ∷ [])
+recordChecks side k r = taskChecks side k (taskOf r) ++ (refuse (not (allZero (part r zeroPlace recordSize))) (refusal 5 side k) ∷ [])
 
 -- those of seven numbers of a list: each fits its field
 abbrev pub numberChecks : ℕ → ℕ → List ℕ → List Verdict

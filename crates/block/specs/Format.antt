@@ -31,6 +31,10 @@ markSecond = 84
 abbrev pub recordPlace : ℕ → ℕ
 recordPlace k = headSize + recordSize * k
 
+-- where the zero bytes at a record's end start
+abbrev pub zeroPlace : ℕ
+zeroPlace = 12
+
 -- a task list has seven numbers a task
 abbrev pub listSize : ℕ
 listSize = 7

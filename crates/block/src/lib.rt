@@ -16,6 +16,8 @@ pub const HEAD_SIZE: usize = 8;
 
 pub const RECORD_SIZE: usize = 16;
 
+pub const ZERO_PLACE: usize = 12;
+
 pub const MOST_TASKS: usize = 30;
 
 pub const CHECK_PLACE: usize = 508;
@@ -196,7 +198,7 @@ pub fn check_record(rec: &[u8], side: u32, k: u32) -> Verdict
     match check_task(side, k, record_at(rec)) {
         Verdict::Refused(a) => Verdict::Refused(a),
         Verdict::Passed => {
-            if all_zero(&rec[12..16]) {
+            if all_zero(&rec[ZERO_PLACE..RECORD_SIZE]) {
                 return Verdict::Passed;
             }
             refused(5, side, k)
