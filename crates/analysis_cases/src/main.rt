@@ -81,13 +81,105 @@ fn analysed<'a>(name: &'a [u8], old: &'a [u8], new: &'a [u8], room: usize) {
     io::write_all(STDOUT_FILENO, b"\n");
 }
 
-// The blocks of two lists, written with modes 1 and 2.
-fn listed<'a>(name: &'a [u8], olds: &'a [u32], news: &'a [u32], room: usize) {
+// Two bytes set, where their places are in the block; the check made right again or not; the block cut to a length.
+struct Damage {
+    first: usize,
+    byte: u8,
+    second: usize,
+    other: u8,
+    mended: bool,
+    length: usize,
+}
+
+fn two(first: usize, byte: u8, second: usize, other: u8) -> Damage {
+    Damage {
+        first,
+        byte,
+        second,
+        other,
+        mended: true,
+        length: 512,
+    }
+}
+
+fn one(first: usize, byte: u8) -> Damage {
+    two(first, byte, 512, 0)
+}
+
+fn sound() -> Damage {
+    one(512, 0)
+}
+
+// One byte set, the check left as it was, and the block cut.
+fn torn(first: usize, byte: u8, length: usize) -> Damage {
+    Damage {
+        first,
+        byte,
+        second: 512,
+        other: 0,
+        mended: false,
+        length,
+    }
+}
+
+fn wide(x: u8) -> u64
+    ensures { λ r. ⌜ (r ≡ x) × (r < 256) ⌝ }
+{
+    x as u64
+}
+
+fn word(a: u8, b: u8, c: u8, d: u8) -> u64
+    ensures { λ r. ⌜ r < 4294967296 ⌝ }
+{
+    wide(a) + 256 * wide(b) + 65536 * wide(c) + 16777216 * wide(d)
+}
+
+// The check of what the block holds now.
+fn mend(block: &mut [u8])
+    requires { ⌜ length (now block) ≡ 512 ⌝ }
+{
+    let mut sum: u64 = 0;
+    for k in 0..127 {
+        let at = 4 * k;
+        sum = (sum + word(block[at], block[at + 1], block[at + 2], block[at + 3])) % 4294967296;
+    }
+    block[508] = (sum % 256) as u8;
+    block[509] = (sum / 256 % 256) as u8;
+    block[510] = (sum / 65536 % 256) as u8;
+    block[511] = (sum / 16777216 % 256) as u8;
+}
+
+fn put(block: &mut [u8], at: usize, byte: u8) {
+    if at < block.len() {
+        block[at] = byte;
+    }
+}
+
+fn spoil(block: &mut [u8], d: Damage)
+    requires { ⌜ length (now block) ≡ 512 ⌝ }
+{
+    put(block, d.first, d.byte);
+    put(block, d.second, d.other);
+    if d.mended {
+        mend(block);
+    }
+}
+
+// The blocks of two lists, written with modes 1 and 2 and then damaged.
+fn tried<'a>(name: &'a [u8], olds: &'a [u32], news: &'a [u32], d: Damage, e: Damage, room: usize) {
     let mut old = [0u8; 512];
     let mut new = [0u8; 512];
     writer::write(0, 1, olds, &mut old);
     writer::write(1, 2, news, &mut new);
-    analysed(name, &old, &new, room);
+    spoil(&mut old, d);
+    spoil(&mut new, e);
+    let n = least(d.length, 512);
+    let k = least(e.length, 512);
+    analysed(name, &old[0..n], &new[0..k], room);
+}
+
+fn listed<'a>(name: &'a [u8], olds: &'a [u32], news: &'a [u32], room: usize) {
+    tried(name, olds, news, sound(), sound(), room);
 }
 
 // ---- cases a to j; a task is kind, priority, number, T, D, C, Y
@@ -249,90 +341,6 @@ fn thirty() {
 
 // ---- damaged blocks
 
-// Two bytes set, where their places are in the block; the check made right again or not; the block cut to a length.
-struct Damage {
-    first: usize,
-    byte: u8,
-    second: usize,
-    other: u8,
-    mended: bool,
-    length: usize,
-}
-
-fn two(first: usize, byte: u8, second: usize, other: u8) -> Damage {
-    Damage {
-        first,
-        byte,
-        second,
-        other,
-        mended: true,
-        length: 512,
-    }
-}
-
-fn one(first: usize, byte: u8) -> Damage {
-    two(first, byte, 512, 0)
-}
-
-fn sound() -> Damage {
-    one(512, 0)
-}
-
-// One byte set, the check left as it was, and the block cut.
-fn torn(first: usize, byte: u8, length: usize) -> Damage {
-    Damage {
-        first,
-        byte,
-        second: 512,
-        other: 0,
-        mended: false,
-        length,
-    }
-}
-
-fn wide(x: u8) -> u64
-    ensures { λ r. ⌜ (r ≡ x) × (r < 256) ⌝ }
-{
-    x as u64
-}
-
-fn word(a: u8, b: u8, c: u8, d: u8) -> u64
-    ensures { λ r. ⌜ r < 4294967296 ⌝ }
-{
-    wide(a) + 256 * wide(b) + 65536 * wide(c) + 16777216 * wide(d)
-}
-
-// The check of what the block holds now.
-fn mend(block: &mut [u8])
-    requires { ⌜ length (now block) ≡ 512 ⌝ }
-{
-    let mut sum: u64 = 0;
-    for k in 0..127 {
-        let at = 4 * k;
-        sum = (sum + word(block[at], block[at + 1], block[at + 2], block[at + 3])) % 4294967296;
-    }
-    block[508] = (sum % 256) as u8;
-    block[509] = (sum / 256 % 256) as u8;
-    block[510] = (sum / 65536 % 256) as u8;
-    block[511] = (sum / 16777216 % 256) as u8;
-}
-
-fn put(block: &mut [u8], at: usize, byte: u8) {
-    if at < block.len() {
-        block[at] = byte;
-    }
-}
-
-fn spoil(block: &mut [u8], d: Damage)
-    requires { ⌜ length (now block) ≡ 512 ⌝ }
-{
-    put(block, d.first, d.byte);
-    put(block, d.second, d.other);
-    if d.mended {
-        mend(block);
-    }
-}
-
 // Case a with a third task on each side, both blocks damaged.
 fn damaged(name: &[u8], d: Damage, e: Damage, room: usize) {
     let olds = [
@@ -381,75 +389,86 @@ fn damaged(name: &[u8], d: Damage, e: Damage, room: usize) {
         1,
         0,
     ];
-    let mut old = [0u8; 512];
-    let mut new = [0u8; 512];
-    writer::write(0, 1, &olds, &mut old);
-    writer::write(1, 2, &news, &mut new);
-    spoil(&mut old, d);
-    spoil(&mut new, e);
-    let n = least(d.length, 512);
-    let k = least(e.length, 512);
-    analysed(name, &old[0..n], &new[0..k], room);
+    tried(name, &olds, &news, d, e, room);
+}
+
+fn old_set(name: &[u8], first: usize, byte: u8, second: usize, other: u8) {
+    damaged(name, two(first, byte, second, other), sound(), 18);
+}
+
+fn new_set(name: &[u8], first: usize, byte: u8, second: usize, other: u8) {
+    damaged(name, sound(), two(first, byte, second, other), 18);
+}
+
+fn old_torn(name: &[u8], first: usize, byte: u8, length: usize) {
+    damaged(name, torn(first, byte, length), sound(), 18);
+}
+
+fn new_torn(name: &[u8], first: usize, byte: u8, length: usize) {
+    damaged(name, sound(), torn(first, byte, length), 18);
 }
 
 // Each refusal of the old block, and with the next one.
-fn old_blocks() {
-    damaged(b"old-1", torn(512, 0, 511), sound(), 18);
-    damaged(b"old-1-2", torn(9, 9, 511), sound(), 18);
-    damaged(b"old-2", torn(511, 255, 512), sound(), 18);
-    damaged(b"old-2-3", torn(0, 0, 512), sound(), 18);
-    damaged(b"old-3", one(0, 0), sound(), 18);
-    damaged(b"old-3-4", two(1, 0, 2, 1), sound(), 18);
-    damaged(b"old-4-side", one(2, 1), sound(), 18);
-    damaged(b"old-4-count", one(3, 31), sound(), 18);
-    damaged(b"old-4-zeros", one(7, 1), sound(), 18);
-    damaged(b"old-4-5", two(2, 1, 24, 2), sound(), 18);
-    damaged(b"old-5", one(40, 2), sound(), 18);
-    damaged(b"old-5-6", two(25, 1, 40, 2), sound(), 18);
-    damaged(b"old-6-priority", one(25, 1), sound(), 18);
-    damaged(b"old-6-number", one(42, 2), sound(), 18);
-    damaged(b"old-6-7", two(25, 1, 507, 1), sound(), 18);
-    damaged(b"old-7", one(507, 1), sound(), 18);
+fn old_heads() {
+    old_torn(b"old-1", 512, 0, 511);
+    old_torn(b"old-1-2", 9, 9, 511);
+    old_torn(b"old-2", 511, 255, 512);
+    old_torn(b"old-2-3", 0, 0, 512);
+    old_set(b"old-3", 0, 0, 512, 0);
+    old_set(b"old-3-4", 1, 0, 2, 1);
+    old_set(b"old-4-side", 2, 1, 512, 0);
+}
+
+fn old_bodies() {
+    old_set(b"old-4-count", 3, 31, 512, 0);
+    old_set(b"old-4-zeros", 7, 1, 512, 0);
+    old_set(b"old-4-5", 2, 1, 24, 2);
+    old_set(b"old-5", 40, 2, 512, 0);
+    old_set(b"old-5-6", 25, 1, 40, 2);
+    old_set(b"old-6-priority", 25, 1, 512, 0);
+    old_set(b"old-6-number", 42, 2, 512, 0);
+    old_set(b"old-6-7", 25, 1, 507, 1);
+    old_set(b"old-7", 507, 1, 512, 0);
     damaged(b"old-7-new-1", one(56, 1), torn(512, 0, 0), 18);
 }
 
 // The same of the new block.
-fn new_blocks() {
-    damaged(b"new-1", sound(), torn(512, 0, 0), 18);
-    damaged(b"new-1-2", sound(), torn(9, 9, 511), 18);
-    damaged(b"new-2", sound(), torn(511, 255, 512), 18);
-    damaged(b"new-2-3", sound(), torn(0, 0, 512), 18);
-    damaged(b"new-3", sound(), one(1, 0), 18);
-    damaged(b"new-3-4", sound(), two(0, 0, 2, 0), 18);
-    damaged(b"new-4-side", sound(), one(2, 0), 18);
-    damaged(b"new-4-count", sound(), one(3, 31), 18);
-    damaged(b"new-4-zeros", sound(), one(6, 1), 18);
-    damaged(b"new-4-5", sound(), two(2, 0, 24, 0), 18);
-    damaged(b"new-5", sound(), one(40, 0), 18);
-    damaged(b"new-5-6", sound(), two(25, 2, 40, 0), 18);
-    damaged(b"new-6-priority", sound(), one(25, 2), 18);
-    damaged(b"new-6-number", sound(), one(42, 20), 18);
-    damaged(b"new-6-7", sound(), two(25, 2, 507, 1), 18);
-    damaged(b"new-7", sound(), one(507, 1), 18);
+fn new_heads() {
+    new_torn(b"new-1", 512, 0, 0);
+    new_torn(b"new-1-2", 9, 9, 511);
+    new_torn(b"new-2", 511, 255, 512);
+    new_torn(b"new-2-3", 0, 0, 512);
+    new_set(b"new-3", 1, 0, 512, 0);
+    new_set(b"new-3-4", 0, 0, 2, 0);
+    new_set(b"new-4-side", 2, 0, 512, 0);
+}
+
+fn new_bodies() {
+    new_set(b"new-4-count", 3, 31, 512, 0);
+    new_set(b"new-4-zeros", 6, 1, 512, 0);
+    new_set(b"new-4-5", 2, 0, 24, 0);
+    new_set(b"new-5", 40, 0, 512, 0);
+    new_set(b"new-5-6", 25, 2, 40, 0);
+    new_set(b"new-6-priority", 25, 2, 512, 0);
+    new_set(b"new-6-number", 42, 20, 512, 0);
+    new_set(b"new-6-7", 25, 2, 507, 1);
+    new_set(b"new-7", 507, 1, 512, 0);
     damaged(b"new-7-8", sound(), one(56, 1), 17);
     damaged(b"8", sound(), sound(), 17);
     damaged(b"sound", sound(), sound(), 18);
 }
 
-fn main() {
+fn like_a_cases() {
     like_a(b"a", 20, 20, 13);
     like_a(b"b", 9, 20, 13);
     like_a(b"c", 8, 20, 13);
     like_a(b"d", 20, 13, 13);
     like_a(b"e", 20, 12, 13);
     like_a(b"e-with-7", 20, 7, 13);
-    like_f(b"f", 20);
-    case_g();
-    case_h();
-    case_i();
-    case_j();
-    old_blocks();
-    new_blocks();
+}
+
+// The room of the report, and which of several refusals comes first.
+fn rooms() {
     like_a(b"8-9", 8, 20, 11);
     like_a(b"8-10", 20, 12, 11);
     like_a(b"9-10", 8, 7, 12);
@@ -457,6 +476,20 @@ fn main() {
     like_a(b"exact-room-9", 8, 20, 12);
     like_a(b"exact-room-10", 20, 12, 12);
     like_a(b"one-short", 20, 20, 11);
+}
+
+fn main() {
+    like_a_cases();
+    like_f(b"f", 20);
+    case_g();
+    case_h();
+    case_i();
+    case_j();
+    old_heads();
+    old_bodies();
+    new_heads();
+    new_bodies();
+    rooms();
     like_f(b"smallest-late-phase", 7);
     late_olds();
     late_news();
