@@ -1,3 +1,4 @@
+-- `copy_bytes` lays src over the front of dst. Invariant: the first i bytes are those of src, the rest is as it was.
 use Rattle.base.proofs.Lists.{over-more, over-end}
 use lib.ListN.{length, take, drop, length-set}
 use mathlib.Core.List.{_++_}

@@ -1,3 +1,4 @@
+-- `all_zero` says whether every byte is zero. Invariant: the sum is that of the first i bytes, at most 255 each.
 use Rattle.block.proofs.Zeros.{zero-sum}
 use Rattle.base.proofs.Sums.{list-more}
 use Rattle.base.specs.Sums.{sumOf}

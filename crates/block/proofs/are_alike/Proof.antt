@@ -1,3 +1,4 @@
+-- `are_alike` says whether two records bear the same number or the same priority.
 use Rattle.block.specs.Checks.{alike}
 use Rattle.block.specs.Record.{taskOf}
 use borrow.Author.Tests.{eq-eqb, ne-eqb}

@@ -1,3 +1,4 @@
+-- `check_of` gives the check of a block. Invariant: the sum is that of the first k words, each below 2^32.
 use Rattle.block.specs.Format.{checkWords}
 use Rattle.block.specs.Block.{wordSum}
 use native.Mathlib.Numerals.{add-one}

@@ -1,3 +1,4 @@
+-- `check_record` gives the first rule that a record breaks, its four zero bytes last.
 use Rattle.block.proofs.Verdicts.{first-stop, first-last}
 use Rattle.block.specs.Checks.{taskChecks}
 use Rattle.block.specs.Answers.{refusal, refuse, firstOf}

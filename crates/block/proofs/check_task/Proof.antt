@@ -1,3 +1,4 @@
+-- `check_task` gives the first rule that a task breaks.
 use Rattle.block.specs.Checks.{kindOn, taskChecks}
 use Rattle.block.specs.Answers.{firstOf}
 use borrow.Author.Tests.{eq-eqb, ne-eqb, lt-ltb, le-ltb, not-false}

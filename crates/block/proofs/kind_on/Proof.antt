@@ -1,3 +1,4 @@
+-- `kind_on` says whether a side has tasks of this kind.
 use Rattle.block.specs.Checks.{kindOn}
 use borrow.Author.Tests.{eq-eqb, ne-eqb}
 use Rattle.block.proofs.kind_on.Statement.{statement}

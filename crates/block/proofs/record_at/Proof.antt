@@ -1,3 +1,4 @@
+-- `record_at` gives the task that sixteen bytes say.
 use Rattle.block.specs.Record.{taskOf}
 use borrow.Author.Needs.{needs}
 use Rattle.block.proofs.record_at.Statement.{statement}

@@ -1,3 +1,4 @@
+-- `refused` gives the refusal of a code, a side and a record.
 use borrow.Author.Needs.{needs}
 use Rattle.block.proofs.refused.Statement.{statement}
 use Rattle.block.proofs.refused.Tie as tie

@@ -1,3 +1,4 @@
+-- `check_of` is safe: it adds the bytes before the check that the slice has.
 use Prim.Native.Nat.{_≤_, _-_}
 use lib.ListN.{length}
 use borrow.Author.Needs.{needs}

@@ -1,3 +1,4 @@
+-- `good_numbers` is safe. Invariant: the array keeps its length.
 use Prim.Native.Nat.{_≤_, _-_}
 use mathlib.Core.Path.{_≡_}
 use lib.ListN.{length}

@@ -1,3 +1,4 @@
+-- `same_bytes` is safe: both slices are as long as the first.
 use Prim.Native.Nat.{_≤_, _-_}
 use lib.ListN.{length}
 use borrow.Author.Needs.{needs}

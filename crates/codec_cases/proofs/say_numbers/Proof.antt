@@ -1,3 +1,4 @@
+-- `say_numbers` is safe: it stops at the end of the slice.
 use Prim.Native.Nat.{_≤_, _-_}
 use lib.ListN.{length}
 use borrow.Author.Needs.{needs}

@@ -1,3 +1,4 @@
+-- `check_block` gives the first of codes 1 to 7 that a block earns.
 use Rattle.block.proofs.Heads.{head-length, head-headed, headed-count}
 use Rattle.block.proofs.Verdicts.{first-on, first-stop}
 use Rattle.block.specs.Block.{headChecks, bodyChecks, blockVerdict, countByte}

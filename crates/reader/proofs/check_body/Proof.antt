@@ -1,3 +1,4 @@
+-- `check_body` gives the first of codes 5 to 7 that n records and the room behind them earn.
 use mathlib.Core.List.{_++_}
 use Rattle.block.proofs.Verdicts.{first-on, first-stop, first-last}
 use Rattle.block.specs.Block.{eachRecord, eachDouble, tasksIn}

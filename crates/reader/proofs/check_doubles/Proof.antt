@@ -1,3 +1,4 @@
+-- `check_doubles` names the first record that bears what an earlier one bears. Invariant: none of the first k does.
 use Rattle.block.proofs.Verdicts.{each-more, each-stop}
 use Rattle.reader.proofs.Doubles.{double-is}
 use Rattle.base.proofs.Lists.{up-length}

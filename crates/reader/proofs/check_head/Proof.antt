@@ -1,3 +1,4 @@
+-- `check_head` gives the first of codes 1 to 4 that a block earns.
 use Rattle.block.specs.Block.{headChecks}
 use Rattle.block.specs.Answers.{firstOf}
 use borrow.Author.Tests.{eq-eqb, ne-eqb}

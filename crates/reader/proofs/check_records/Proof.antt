@@ -1,3 +1,4 @@
+-- `check_records` names the first record that breaks a rule. Invariant: none of the first k does.
 use Rattle.block.proofs.Verdicts.{each-more, each-stop}
 use Rattle.base.specs.Lists.{upTo}
 use Rattle.block.specs.Block.{recordPart, eachRecord}

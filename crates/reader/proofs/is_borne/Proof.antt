@@ -1,3 +1,4 @@
+-- `is_borne` says whether an earlier record bears what record k bears. Invariant: none of the first j does.
 use Rattle.reader.proofs.Doubles.{borne-none, borne-more, borne-at}
 use Rattle.block.specs.Block.{recordPart, tasksIn}
 use Rattle.block.specs.Checks.{borneIn}

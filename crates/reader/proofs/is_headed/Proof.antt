@@ -1,3 +1,4 @@
+-- `is_headed` says whether the side is one, the block's own, the count at most 30 and bytes 6-7 zero.
 use Rattle.block.specs.Block.{headed}
 use borrow.Author.Tests.{eq-eqb, ne-eqb, le-leb, lt-leb}
 use borrow.Author.Needs.{needs}

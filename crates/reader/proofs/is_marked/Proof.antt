@@ -1,3 +1,4 @@
+-- `is_marked` says whether a block has its mark.
 use borrow.Author.Tests.{eq-eqb, ne-eqb}
 use borrow.Author.Needs.{needs}
 use Rattle.reader.proofs.is_marked.Statement.{statement}

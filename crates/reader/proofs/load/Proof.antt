@@ -1,3 +1,4 @@
+-- `load` gives the table of a block that reads, or the refusal.
 use Rattle.block.proofs.Reading.{block-length, block-count}
 use Rattle.block.specs.Block.{blockVerdict, readingOf, loadedOf}
 use Rattle.block.specs.declared.Verdict.the-variants.{Passed}

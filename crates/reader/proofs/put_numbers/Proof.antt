@@ -1,3 +1,4 @@
+-- `put_numbers` puts a task's seven numbers into their part of a list.
 use Rattle.block.specs.Record.{numbersOf}
 use Rattle.base.proofs.Lists.{over-same}
 use mathlib.Core.Path.{_∙_, sym}

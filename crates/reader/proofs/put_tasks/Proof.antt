@@ -1,3 +1,4 @@
+-- `put_tasks` puts n tasks to the front of a list. Invariant: the list holds the first k tasks, and the rest is as it was.
 use Rattle.reader.proofs.Numbers.{list-more}
 use Rattle.block.specs.Block.{recordPart, tasksIn, listOf}
 use Rattle.block.specs.Record.{taskOf, numbersOf}

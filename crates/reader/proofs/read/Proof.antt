@@ -1,3 +1,4 @@
+-- `read` answers as the paper says, and the list holds the tasks or is as it was.
 use Rattle.reader.proofs.Outcomes.{both, read-refused, read-short, read-done}
 use Rattle.block.proofs.Reading.{block-length, block-count}
 use Rattle.block.specs.Block.{blockVerdict, tasksIn, listOf}

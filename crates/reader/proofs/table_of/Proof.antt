@@ -1,3 +1,4 @@
+-- `table_of` gives the table of n records. Invariant: the table has the first k tasks, empty places behind them, and count n.
 use Rattle.reader.proofs.Tables.{table-more, table-is}
 use Rattle.block.specs.Block.{recordPart, tasksIn}
 use Rattle.block.specs.Checks.{noTask}

@@ -1,3 +1,4 @@
+-- `all_below` says whether every number is below a bound. Invariant: the first i are.
 use Rattle.base.proofs.Lists.{every-all, every-not}
 use borrow.Author.Count.{below-more}
 use borrow.Author.Tests.{lt-ltb, le-ltb}

@@ -1,3 +1,4 @@
+-- `are_fit` says whether seven numbers fit their fields.
 use mathlib.Core.Path.{sym, _∙_}
 use borrow.Author.Needs.{needs}
 use Rattle.writer.proofs.are_fit.Statement.{statement}

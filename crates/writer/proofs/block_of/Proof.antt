@@ -1,3 +1,4 @@
+-- `block_of` gives the block of n tasks. Invariant: the block has its head, the first k records, and zeros behind them.
 use Rattle.writer.proofs.Written.{eight, grown, grown-none, grown-length, grown-more, grown-sealed}
 use Rattle.writer.proofs.Fits.{seven-fits}
 use Rattle.block.specs.Block.{numbersPart, headOf}

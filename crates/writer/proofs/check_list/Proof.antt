@@ -1,3 +1,4 @@
+-- `check_list` gives the first of codes 1, 11 and 4 that a list earns.
 use Rattle.block.specs.Block.{listHead}
 use Rattle.block.specs.Answers.{firstOf}
 use borrow.Author.Tests.{eq-eqb, ne-eqb, le-leb, lt-leb}

@@ -1,3 +1,4 @@
+-- `check_seven` gives the first rule that seven numbers break.
 use Rattle.block.specs.Checks.{taskChecks}
 use Rattle.block.specs.Answers.{firstOf}
 use Rattle.block.specs.declared.Task.{Task}

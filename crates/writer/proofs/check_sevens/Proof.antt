@@ -1,3 +1,4 @@
+-- `check_sevens` names the first task of a list that breaks a rule. Invariant: none of the first k does.
 use Rattle.block.proofs.Verdicts.{each-more, each-stop}
 use Rattle.block.specs.Block.{numbersPart, eachSeven}
 use Rattle.block.specs.Checks.{numberChecks}

@@ -1,3 +1,4 @@
+-- `empty_block` gives a block that has its head and zeros behind it.
 use lib.ListN.{replicate}
 use Prim.Native.Nat.{ℕ}
 use mathlib.Core.List.{List, _++_}

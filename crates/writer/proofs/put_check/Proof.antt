@@ -1,3 +1,4 @@
+-- `put_check` puts the check's four bytes into their part of a block.
 use Rattle.base.proofs.Lists.{over-same}
 use mathlib.Core.Path.{_∙_, sym}
 use borrow.Author.Needs.{needs}

@@ -1,3 +1,4 @@
+-- `put_head` puts the eight bytes of a head into their part of a block.
 use Rattle.block.specs.Block.{headOf}
 use Rattle.base.proofs.Lists.{over-same}
 use mathlib.Core.Path.{_∙_, sym}

@@ -1,3 +1,4 @@
+-- `put_record` puts a task's sixteen bytes into their part of a block.
 use Rattle.block.specs.Record.{recordOf}
 use Rattle.base.proofs.Lists.{over-same}
 use mathlib.Core.Path.{_∙_, sym}

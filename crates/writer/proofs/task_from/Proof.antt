@@ -1,3 +1,4 @@
+-- `task_from` gives the task that seven numbers say, where they fit.
 use Rattle.writer.proofs.Fits.{seven-small}
 use Rattle.block.specs.Legal.{Small}
 use Rattle.block.specs.Record.{taskFrom}
