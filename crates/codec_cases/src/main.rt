@@ -67,9 +67,7 @@ fn say_same(same: bool) {
     say_which(same, b" same", b" other");
 }
 
-fn say_answer(form: &[u8], name: &[u8], a: block::Answer) {
-    say(form);
-    say(name);
+fn say_answer(a: block::Answer) {
     say(b":");
     say_number(a.code);
     say_number(a.side);
@@ -292,9 +290,9 @@ fn reads_back(side: u32, bytes: &[u8], list: &[u32]) -> bool {
     same_numbers(&again[0..n], list)
 }
 
-fn tell_write(name: &[u8], side: u32, list: &[u32], bytes: &mut [u8], before: &[u8]) {
+fn tell_write(side: u32, list: &[u32], bytes: &mut [u8], before: &[u8]) {
     let a = writer::write(side, MODE, list, bytes);
-    say_answer(b"write ", name, a);
+    say_answer(a);
     say_kept(same_bytes(bytes, before));
     if a.code == 0 {
         say(b", check");
@@ -305,7 +303,7 @@ fn tell_write(name: &[u8], side: u32, list: &[u32], bytes: &mut [u8], before: &[
     say(b"\n");
 }
 
-fn write_case(name: &[u8], w: Writing) {
+fn write_as(w: Writing) {
     let mut list = good_numbers(w.of);
     put_number(&mut list, w.at, w.value);
     put_number(&mut list, w.then, w.also);
@@ -314,7 +312,6 @@ fn write_case(name: &[u8], w: Writing) {
     let size = least(w.size, MOST_NUMBERS);
     let room = least(w.room, MOST_BYTES);
     tell_write(
-        name,
         w.side,
         &list[0..size],
         &mut bytes[0..room],
@@ -421,9 +418,9 @@ fn say_tasks(list: &[u32], n: usize) {
     say_task(list, n - 1);
 }
 
-fn tell_read(name: &[u8], wanted: u32, bytes: &[u8], list: &mut [u32], before: &[u32]) {
+fn tell_read(wanted: u32, bytes: &[u8], list: &mut [u32], before: &[u32]) {
     let a = reader::read(bytes, wanted, list);
-    say_answer(b"read ", name, a);
+    say_answer(a);
     say_kept(same_numbers(list, before));
     if a.code == 0 {
         let n = a.record as usize;
@@ -438,14 +435,13 @@ fn tell_read(name: &[u8], wanted: u32, bytes: &[u8], list: &mut [u32], before: &
     say(b"\n");
 }
 
-fn read_case(name: &[u8], r: Reading) {
+fn read_as(r: Reading) {
     let bytes = bytes_of(r);
     let before = [NOTHING_NUMBER; 224];
     let mut list = [NOTHING_NUMBER; 224];
     let long = least(r.long, MOST_BYTES);
     let room = least(r.room, MOST_NUMBERS);
     tell_read(
-        name,
         r.wanted,
         &bytes[0..long],
         &mut list[0..room],
@@ -473,11 +469,13 @@ fn say_entry(tasks: [block::Task; 30], k: usize) {
 
 // The answer, the mode number, the count, and the first, the second and the last of the thirty places.
 fn load_case(name: &[u8], r: Reading) {
+    say(b"load ");
+    say(name);
     let bytes = bytes_of(r);
     let long = least(r.long, MOST_BYTES);
     let loaded = reader::load(&bytes[0..long], r.wanted);
     let a = loaded.answer;
-    say_answer(b"load ", name, a);
+    say_answer(a);
     let table = loaded.table;
     say(b", mode");
     say_number(number(loaded.mode));
@@ -492,15 +490,174 @@ fn load_case(name: &[u8], r: Reading) {
 
 // ---- the cases
 
-// Two good tasks with one number put in, or two; and so with bytes of their block.
-fn write_put(name: &[u8], side: u32, at: usize, value: u32) {
-    write_case(name, good_list(side, TWO).with(at, value));
+fn write_case(name: &[u8], w: Writing) {
+    say(b"write ");
+    say(name);
+    write_as(w);
 }
 
-fn write_puts(name: &[u8], side: u32, at: usize, value: u32, then: usize, also: u32) {
-    write_case(name, good_list(side, TWO).with(at, value).and(then, also));
+fn read_case(name: &[u8], r: Reading) {
+    say(b"read ");
+    say(name);
+    read_as(r);
 }
 
+fn say_side(side: u32) {
+    say_which(side == OLD, b" old", b" new");
+}
+
+fn say_field(f: usize) {
+    match f {
+        0 => say(b" kind"),
+        1 => say(b" priority"),
+        2 => say(b" number"),
+        3 => say(b" T"),
+        4 => say(b" D"),
+        5 => say(b" C"),
+        _ => say(b" Y"),
+    }
+}
+
+// One number of two good tasks: the side, the place in the list, the value.
+struct Put(u32, usize, u32);
+
+// The rules of a record at their edges, numbers and priorities borne twice, and numbers too wide for their fields.
+const PUTS: [Put; 47] = [
+    Put(OLD, 5, 900),
+    Put(OLD, 5, 901),
+    Put(OLD, 11, 1000),
+    Put(OLD, 11, 1001),
+    Put(NEW, 12, 0),
+    Put(NEW, 3, 0),
+    Put(OLD, 4, 0),
+    Put(OLD, 3, 65535),
+    Put(OLD, 7, 0),
+    Put(OLD, 7, 1),
+    Put(OLD, 7, 2),
+    Put(OLD, 7, 3),
+    Put(OLD, 7, 255),
+    Put(OLD, 7, 256),
+    Put(NEW, 0, 0),
+    Put(NEW, 0, 1),
+    Put(NEW, 0, 2),
+    Put(NEW, 0, 3),
+    Put(NEW, 0, 255),
+    Put(NEW, 0, 256),
+    Put(OLD, 13, 1),
+    Put(OLD, 6, 65535),
+    Put(NEW, 6, 0),
+    Put(NEW, 6, 65535),
+    Put(NEW, 6, 65536),
+    Put(OLD, 9, 300),
+    Put(OLD, 8, 10),
+    Put(NEW, 1, 255),
+    Put(NEW, 2, 65535),
+    Put(NEW, 2, 0),
+    Put(NEW, 7, 256),
+    Put(NEW, 8, 256),
+    Put(NEW, 9, 65536),
+    Put(NEW, 10, 65536),
+    Put(NEW, 11, 65536),
+    Put(NEW, 12, 65536),
+    Put(NEW, 13, 65536),
+    Put(NEW, 0, LARGEST),
+    Put(NEW, 1, LARGEST),
+    Put(NEW, 2, LARGEST),
+    Put(NEW, 3, LARGEST),
+    Put(NEW, 4, LARGEST),
+    Put(NEW, 5, LARGEST),
+    Put(NEW, 6, LARGEST),
+    Put(NEW, 0, 258),
+    Put(OLD, 3, 66536),
+    Put(OLD, 5, 65543),
+];
+
+fn write_put(p: Put) {
+    say(b"write");
+    say_side(p.0);
+    say(b" record");
+    say_number(wide((p.1 / 7 % 256) as u8));
+    say_field(p.1 % 7);
+    say(b" =");
+    say_number(p.2);
+    write_as(good_list(p.0, TWO).with(p.1, p.2));
+}
+
+fn write_puts() {
+    let mut k: usize = 0;
+    while k < 47 {
+        write_put(PUTS[k]);
+        k += 1;
+    }
+}
+
+// One byte of a good block: the place, the value.
+struct Damage(usize, u8);
+
+// Mark, side, count, mode, bytes 6-7; the fields of a record; its four zero bytes; unused room; check.
+const DAMAGES: [Damage; 35] = [
+    Damage(0, 76),
+    Damage(1, 85),
+    Damage(2, 1),
+    Damage(2, 2),
+    Damage(3, 31),
+    Damage(3, 1),
+    Damage(3, 3),
+    Damage(4, 255),
+    Damage(5, 255),
+    Damage(6, 1),
+    Damage(7, 128),
+    Damage(8, 2),
+    Damage(9, 200),
+    Damage(9, 11),
+    Damage(10, 1),
+    Damage(11, 2),
+    Damage(12, 131),
+    Damage(13, 2),
+    Damage(14, 233),
+    Damage(15, 0),
+    Damage(16, 0),
+    Damage(17, 4),
+    Damage(18, 1),
+    Damage(19, 128),
+    Damage(20, 1),
+    Damage(21, 2),
+    Damage(22, 4),
+    Damage(39, 128),
+    Damage(40, 1),
+    Damage(300, 255),
+    Damage(507, 16),
+    Damage(508, 0),
+    Damage(509, 0),
+    Damage(510, 0),
+    Damage(511, 0),
+];
+
+fn say_damage(d: Damage) {
+    say_number(number((d.0 % 65536) as u16));
+    say(b" =");
+    say_number(wide(d.1));
+}
+
+// The check left as it was, and mended.
+fn read_damage(d: Damage) {
+    say(b"damaged byte");
+    say_damage(d);
+    read_as(good_block(OLD, TWO).with(d.0, d.1).unmended());
+    say(b"mended byte");
+    say_damage(d);
+    read_as(good_block(OLD, TWO).with(d.0, d.1));
+}
+
+fn read_damages() {
+    let mut k: usize = 0;
+    while k < 35 {
+        read_damage(DAMAGES[k]);
+        k += 1;
+    }
+}
+
+// Two bytes of a good block, or one.
 fn read_put(name: &[u8], side: u32, at: usize, value: u8) {
     read_case(name, good_block(side, TWO).with(at, value));
 }
@@ -543,44 +700,14 @@ fn write_sides() {
 }
 
 fn write_rules() {
-    write_put(b"C = D", OLD, 5, 900);
-    write_put(b"C = D + 1", OLD, 5, 901);
-    write_put(b"D = T", OLD, 11, 1000);
-    write_put(b"D = T + 1", OLD, 11, 1001);
-    write_put(b"C = 0", NEW, 12, 0);
-    write_put(b"T = 0", NEW, 3, 0);
-    write_puts(b"T = D = 0", NEW, 3, 0, 4, 0);
-    write_put(b"D = 0", OLD, 4, 0);
-    write_put(b"T = 65535", OLD, 3, 65535);
-    write_puts(b"T = D = 65535", OLD, 3, 65535, 4, 65535);
-}
-
-fn write_kinds() {
-    write_put(b"old kind 0", OLD, 7, 0);
-    write_put(b"old kind 1", OLD, 7, 1);
-    write_put(b"old kind 2", OLD, 7, 2);
-    write_put(b"old kind 3", OLD, 7, 3);
-    write_put(b"old kind 255", OLD, 7, 255);
-    write_put(b"old kind 256", OLD, 7, 256);
-    write_put(b"new kind 0", NEW, 0, 0);
-    write_put(b"new kind 1", NEW, 0, 1);
-    write_put(b"new kind 2", NEW, 0, 2);
-    write_put(b"new kind 3", NEW, 0, 3);
-    write_put(b"new kind 255", NEW, 0, 255);
-    write_put(b"new kind 256", NEW, 0, 256);
-}
-
-fn write_offsets() {
-    write_put(b"old Y = 1", OLD, 13, 1);
-    write_put(b"old Y = 65535", OLD, 6, 65535);
-    write_put(b"new Y = 0", NEW, 6, 0);
-    write_put(b"new Y = 65535", NEW, 6, 65535);
-    write_put(b"new Y = 65536", NEW, 6, 65536);
+    write_case(b"T = D = 0", good_list(NEW, TWO).with(3, 0).and(4, 0));
+    write_case(
+        b"T = D = 65535",
+        good_list(OLD, TWO).with(3, 65535).and(4, 65535),
+    );
 }
 
 fn write_doubles() {
-    write_put(b"equal numbers", OLD, 9, 300);
-    write_put(b"equal priorities", OLD, 8, 10);
     write_case(
         b"number of the first at the third",
         good_list(NEW, THREE).with(16, 300),
@@ -597,32 +724,6 @@ fn write_doubles() {
         b"two doubles",
         good_list(NEW, THREE).with(16, 300).and(8, 10),
     );
-}
-
-fn write_wide() {
-    write_put(b"priority 255", NEW, 1, 255);
-    write_put(b"number 65535", NEW, 2, 65535);
-    write_put(b"number 0", NEW, 2, 0);
-    write_put(b"kind 256", NEW, 7, 256);
-    write_put(b"priority 256", NEW, 8, 256);
-    write_put(b"number 65536", NEW, 9, 65536);
-    write_put(b"T 65536", NEW, 10, 65536);
-    write_put(b"D 65536", NEW, 11, 65536);
-    write_put(b"C 65536", NEW, 12, 65536);
-    write_put(b"Y 65536", NEW, 13, 65536);
-}
-
-fn write_wider() {
-    write_put(b"kind 4294967295", NEW, 0, LARGEST);
-    write_put(b"priority 4294967295", NEW, 1, LARGEST);
-    write_put(b"number 4294967295", NEW, 2, LARGEST);
-    write_put(b"T 4294967295", NEW, 3, LARGEST);
-    write_put(b"D 4294967295", NEW, 4, LARGEST);
-    write_put(b"C 4294967295", NEW, 5, LARGEST);
-    write_put(b"Y 4294967295", NEW, 6, LARGEST);
-    write_put(b"kind 258", NEW, 0, 258);
-    write_put(b"T 66536", OLD, 3, 66536);
-    write_put(b"C 65543", OLD, 5, 65543);
 }
 
 // Two rules broken at once: the order decides.
@@ -698,6 +799,10 @@ fn read_rules() {
     read_put(b"C = 0", NEW, 32, 0);
     read_puts(b"T = 0", NEW, 12, 0, 13, 0);
     read_puts(b"D = 0", NEW, 14, 0, 15, 0);
+    read_put(b"old Y = 1", OLD, 34, 1);
+    read_put(b"old Y = 256", OLD, 19, 1);
+    read_puts(b"new Y = 0", NEW, 18, 0, 19, 0);
+    read_puts(b"new Y = 65535", NEW, 18, 255, 19, 255);
 }
 
 fn read_kinds() {
@@ -714,10 +819,6 @@ fn read_kinds() {
 }
 
 fn read_doubles() {
-    read_put(b"old Y = 1", OLD, 34, 1);
-    read_put(b"old Y = 256", OLD, 19, 1);
-    read_puts(b"new Y = 0", NEW, 18, 0, 19, 0);
-    read_puts(b"new Y = 65535", NEW, 18, 255, 19, 255);
     read_put(b"equal numbers", OLD, 26, 44);
     read_put(b"equal priorities", OLD, 25, 10);
     read_case(
@@ -736,58 +837,6 @@ fn read_doubles() {
         b"two doubles",
         good_block(NEW, THREE).with(42, 44).and(25, 10),
     );
-}
-
-// One byte of a good block changed, its check left and mended.
-fn damage(name: &[u8], at: usize, value: u8) {
-    say(b"damaged ");
-    read_case(name, good_block(OLD, TWO).with(at, value).unmended());
-    say(b"mended ");
-    read_case(name, good_block(OLD, TWO).with(at, value));
-}
-
-fn damage_head() {
-    damage(b"mark first", 0, 76);
-    damage(b"mark second", 1, 85);
-    damage(b"side 1", 2, 1);
-    damage(b"side 2", 2, 2);
-    damage(b"count 31", 3, 31);
-    damage(b"count 1", 3, 1);
-    damage(b"count 3", 3, 3);
-    damage(b"mode low", 4, 255);
-    damage(b"mode high", 5, 255);
-    damage(b"byte 6", 6, 1);
-    damage(b"byte 7", 7, 128);
-}
-
-fn damage_record() {
-    damage(b"kind", 8, 2);
-    damage(b"priority", 9, 200);
-    damage(b"priority of the second", 9, 11);
-    damage(b"number low", 10, 1);
-    damage(b"number high", 11, 2);
-    damage(b"T low", 12, 131);
-    damage(b"T high", 13, 2);
-    damage(b"D low", 14, 233);
-    damage(b"D high", 15, 0);
-    damage(b"C low", 16, 0);
-    damage(b"C high", 17, 4);
-    damage(b"Y low", 18, 1);
-    damage(b"Y high", 19, 128);
-}
-
-fn damage_rest() {
-    damage(b"zero byte 12", 20, 1);
-    damage(b"zero byte 13", 21, 2);
-    damage(b"zero byte 14", 22, 4);
-    damage(b"zero byte 15", 39, 128);
-    damage(b"first unused", 40, 1);
-    damage(b"middle unused", 300, 255);
-    damage(b"last unused", 507, 16);
-    damage(b"check first", 508, 0);
-    damage(b"check second", 509, 0);
-    damage(b"check third", 510, 0);
-    damage(b"check fourth", 511, 0);
 }
 
 // Two rules broken at once: the order decides.
@@ -829,11 +878,8 @@ fn main() {
     write_lengths();
     write_sides();
     write_rules();
-    write_kinds();
-    write_offsets();
     write_doubles();
-    write_wide();
-    write_wider();
+    write_puts();
     write_pairs();
     read_counts();
     read_lengths();
@@ -841,9 +887,7 @@ fn main() {
     read_rules();
     read_kinds();
     read_doubles();
-    damage_head();
-    damage_record();
-    damage_rest();
+    read_damages();
     read_pairs();
     load_cases();
 }

@@ -37,9 +37,9 @@ fn say_task(list: [u32; 14], at: usize)
 fn main() {
     let tasks: [u32; 14] = [0, 1, 1, 10, 10, 2, 0, 0, 3, 2, 20, 20, 4, 0];
     let mut bytes = [0u8; 512];
-    block::write(0, 1, &tasks, &mut bytes);
+    writer::write(0, 1, &tasks, &mut bytes);
     let mut list = [0u32; 14];
-    let a = block::read(&bytes, 0, &mut list);
+    let a = reader::read(&bytes, 0, &mut list);
     say_number(b"code ", a.code);
     say_number(b", mode ", a.detail);
     say_number(b", tasks ", a.record);

@@ -1,13 +1,13 @@
 -- What a list that passes tells, and the writer's ways out.
-use Prim.Native.Nat.{ℕ, _*_, _/_, _%_, _≤_}
+use Prim.Native.Nat.{ℕ, _*_, _/_, _%_, _≤_, _<_}
 use mathlib.Core.Path.{_≡_, sym, ap, subst, _∙_}
 use mathlib.Core.Bool.{true, _&&_}
 use mathlib.Core.List.{List, _++_}
 use native.Mathlib.Omega.{arith}
 use lib.Dec.{leb}
 use lib.ListN.{length, getD}
-use borrow.Author.Tests.{eqb-true, leb-true, not-false}
-use Rattle.base.proofs.Lists.{up-length, up-at, and-left, and-right}
+use borrow.Author.Tests.{eqb-true, leb-true, not-false, eq-eqb, lt-leb}
+use Rattle.base.proofs.Lists.{up-length, up-at, and-left, and-right, and-false}
 use Rattle.block.specs.declared.Task.{Task}
 use Rattle.block.specs.declared.Answer.{Answer}
 use Rattle.block.specs.declared.Verdict.the-variants.{Passed, Refused}
@@ -87,3 +87,11 @@ lent-kept b m e p = (p ∙ ap replyOf (sym e), ap (λ (w : Written). leftOf w m)
 
 pub lent-written : {w : Written} {c : List ℕ} (d m : List ℕ) → w ≡ wrote c → d ≡ c → (done ≡ replyOf w) × (d ≡ leftOf w m)
 lent-written d m e p = (ap replyOf (sym e), p ∙ ap (λ (w : Written). leftOf w m) (sym e))
+
+-- any list of more than thirty tasks gets the same answer
+many : (side size : ℕ) → size % listSize ≡ 0 → mostTasks < size / listSize → firstOf (listHead side size blockSize) ≡ Refused (refusal 4 side 0)
+unfolding firstOf listHead
+many side size e h = simp (eq-eqb _ _ e, lt-leb _ _ h, and-false)
+
+pub write-many : (side mode : ℕ) (l : List ℕ) → length l % listSize ≡ 0 → mostTasks < length l / listSize → writeOf side mode l blockSize ≡ refused (refusal 4 side 0)
+write-many side mode l e h = write-head side mode l blockSize (refusal 4 side 0) (many side (length l) e h)
