@@ -1,0 +1,222 @@
+/* The same job in plain C, written for speed: two blocks and a report to an answer. It has the savings that the proved code
+ * has (the chain, the early end of the phases, later searches start past the last phase, the jump over phases where the
+ * old part does not grow, one evaluation against the best so far, the tasks above gathered once a row), ordinary division
+ * and arithmetic of 32 bits, which is enough for every number here.
+ *
+ * With -DCOUNT it counts how often a demand is worked out; without, the counter stays 0 and costs nothing. */
+#include "plain.h"
+
+unsigned long plain_evaluations = 0;
+#ifdef COUNT
+#define COUNTED plain_evaluations++
+#else
+#define COUNTED ((void)0)
+#endif
+
+enum { completed = 0, aborted = 1, entering = 2, most = 30 };
+
+struct task {
+    uint32_t kind, rank, period, deadline, execution, offset;
+};
+
+struct table {
+    uint32_t count;
+    struct task tasks[most];
+};
+
+/* A task above: old ones have 1 for aborted as their last number, new ones their offset. */
+struct term {
+    uint32_t period, execution, last;
+};
+
+static uint32_t half(const uint8_t *at) {
+    return (uint32_t)at[0] | (uint32_t)at[1] << 8;
+}
+
+static uint32_t word(const uint8_t *at) {
+    return half(at) | half(at + 2) << 16;
+}
+
+static struct visnumar_answer say(uint32_t code, uint32_t side, uint32_t record, uint32_t detail) {
+    struct visnumar_answer answer = {code, side, record, detail};
+    return answer;
+}
+
+/* Codes 1 to 7, and the table where none is given. */
+static struct visnumar_answer load(const uint8_t *block, size_t len, uint32_t side, struct table *table) {
+    if (len != 512) return say(1, side, 0, 0);
+    uint32_t check = 0;
+    for (uint32_t k = 0; k < 127; k++) check += word(block + 4 * k);
+    if (check != word(block + 508)) return say(2, side, 0, 0);
+    if (block[0] != 0x4D || block[1] != 0x54) return say(3, side, 0, 0);
+    uint32_t n = block[3];
+    if (block[2] != side || n > most || half(block + 6) != 0) return say(4, side, 0, 0);
+    for (uint32_t k = 0; k < n; k++) {
+        const uint8_t *record = block + 8 + 16 * k;
+        struct task *x = &table->tasks[k];
+        x->kind = record[0];
+        x->rank = 2 * (uint32_t)record[1] + side;
+        x->period = half(record + 4);
+        x->deadline = half(record + 6);
+        x->execution = half(record + 8);
+        x->offset = half(record + 10);
+        int right = (side == 0 ? x->kind < entering : x->kind == entering) && x->period >= 1 && x->execution >= 1
+            && x->execution <= x->deadline && x->deadline <= x->period && (side == 1 || x->offset == 0)
+            && word(record + 12) == 0;
+        if (!right) return say(5, side, k, 0);
+    }
+    for (uint32_t k = 1; k < n; k++) {
+        uint32_t number = half(block + 8 + 16 * k + 2);
+        uint32_t priority = block[8 + 16 * k + 1];
+        for (uint32_t j = 0; j < k; j++) {
+            const uint8_t *earlier = block + 8 + 16 * j;
+            if (half(earlier + 2) == number || earlier[1] == priority) return say(6, side, k, 0);
+        }
+    }
+    uint32_t room = 0;
+    for (uint32_t k = 8 + 16 * n; k < 508; k += 4) room |= word(block + k);
+    if (room != 0) return say(7, side, 0, 0);
+    table->count = n;
+    return say(0, 2, 0, 0);
+}
+
+/* The demand at t, the request coming at x. */
+static inline uint32_t demand(const struct term *olds, uint32_t n, const struct term *news, uint32_t k, uint32_t c, uint32_t x,
+                              uint32_t t) {
+    COUNTED;
+    uint32_t sum = c;
+    uint32_t m = t < x ? t : x;
+    for (uint32_t j = 0; j < n; j++) {
+        uint32_t p = olds[j].period, e = olds[j].execution;
+        if (olds[j].last == 0) {
+            sum += (m + p - 1) / p * e;
+        } else {
+            uint32_t q = m / p, rest = m - q * p;
+            sum += q * e + (rest < e ? rest : e);
+        }
+    }
+    if (t > x) {
+        uint32_t u = t - x;
+        for (uint32_t j = 0; j < k; j++) {
+            if (u > news[j].last) sum += (u - news[j].last + news[j].period - 1) / news[j].period * news[j].execution;
+        }
+    }
+    return sum;
+}
+
+/* The least closing t up to the limit, from a start below which none closes; 0 where there is none. */
+static inline uint32_t search(const struct term *olds, uint32_t n, const struct term *news, uint32_t k, uint32_t c, uint32_t x,
+                              uint32_t start, uint32_t limit) {
+    uint32_t t = start;
+    for (;;) {
+        uint32_t d = demand(olds, n, news, k, c, x, t);
+        if (d == t) return t;
+        if (d > limit) return 0;
+        t = d;
+    }
+}
+
+/* The terms of the tasks above a rank. */
+static uint32_t gather(struct term *terms, const struct table *table, uint32_t rank, int old) {
+    uint32_t count = 0;
+    for (uint32_t j = 0; j < table->count; j++) {
+        const struct task *x = &table->tasks[j];
+        if (x->rank < rank) {
+            struct term y = {x->period, x->execution, old ? x->kind : x->offset};
+            terms[count++] = y;
+        }
+    }
+    return count;
+}
+
+/* The next phase after x at which an old term grows, or limit + 1. */
+static inline uint32_t next_phase(const struct term *olds, uint32_t n, uint32_t x, uint32_t limit) {
+    uint32_t next = limit + 1;
+    for (uint32_t j = 0; j < n; j++) {
+        uint32_t p = olds[j].period, rest = x % p;
+        if (rest < (olds[j].last == 0 ? 1 : olds[j].execution)) return x + 1 < next ? x + 1 : next;
+        uint32_t at = x - rest + p + 1;
+        if (at < next) next = at;
+    }
+    return next;
+}
+
+/* The worst window over all phases with its smallest phase; 0 and the first late phase where there is one. */
+static void over_phases(const struct term *olds, uint32_t n, const struct term *news, uint32_t k, uint32_t c, uint32_t limit,
+                        uint32_t *worst, uint32_t *phase) {
+    uint32_t best = 0, at = 0, start = c;
+    for (uint32_t x = 1; x <= limit; x = next_phase(olds, n, x, limit)) {
+        uint32_t shut = best;
+        if (best == 0 || demand(olds, n, news, k, c, x, best) > best) {
+            shut = search(olds, n, news, k, c, x, start, limit);
+            if (shut == 0) {
+                *worst = 0;
+                *phase = x;
+                return;
+            }
+            if (shut > best) {
+                best = shut;
+                at = x;
+            }
+            uint32_t low = shut < x + 1 ? shut : x + 1;
+            if (low > start) start = low;
+        }
+        if (shut <= x) break;
+    }
+    *worst = best;
+    *phase = at;
+}
+
+struct visnumar_answer plain_analyse(const uint8_t *old_block, size_t old_len, const uint8_t *new_block, size_t new_len,
+                                     uint32_t *report, size_t report_len) {
+    struct table old, new;
+    struct visnumar_answer answer = load(old_block, old_len, 0, &old);
+    if (answer.code != 0) return answer;
+    answer = load(new_block, new_len, 1, &new);
+    if (answer.code != 0) return answer;
+    uint32_t n = old.count, k = new.count;
+    if (report_len < 3 * (n + k)) return say(8, 2, 0, 0);
+
+    uint32_t rows[180];
+    struct term before[most], after[most];
+    for (uint32_t i = 0; i < n; i++) {
+        const struct task *own = &old.tasks[i];
+        uint32_t c = own->execution, d = own->deadline, *row = rows + 3 * i;
+        uint32_t a = gather(before, &old, own->rank, 1);
+        if (own->kind == completed) {
+            uint32_t b = gather(after, &new, own->rank, 0);
+            over_phases(before, a, after, b, c, d, &row[0], &row[1]);
+            if (row[0] == 0) return say(9, 0, i, row[1]);
+            for (uint32_t j = 0; j < a; j++) before[j].last = 0;
+            row[2] = search(before, a, after, 0, c, d, c, d);
+        } else {
+            for (uint32_t j = 0; j < a; j++) before[j].last = 0;
+            uint32_t steady = search(before, a, after, 0, c, d, c, d);
+            if (steady == 0) return say(9, 0, i, 0);
+            row[0] = steady;
+            row[1] = 0;
+            row[2] = steady;
+        }
+    }
+    for (uint32_t i = 0; i < k; i++) {
+        const struct task *own = &new.tasks[i];
+        uint32_t c = own->execution, d = own->deadline, y = own->offset, *row = rows + 3 * (n + i);
+        uint32_t b = gather(after, &new, own->rank, 0);
+        for (uint32_t j = 0; j < b; j++) {
+            before[j] = after[j];
+            before[j].last = 0;
+        }
+        uint32_t steady = search(before, b, after, 0, c, d, c, d);
+        if (steady == 0) return say(10, 1, i, 0);
+        for (uint32_t j = 0; j < n; j++) {
+            if (old.tasks[j].kind == completed && old.tasks[j].rank < own->rank) c += old.tasks[j].execution;
+        }
+        uint32_t w = c > y + d ? 0 : search(before, 0, after, b, c, 0, c, y + d);
+        if (w == 0) return say(10, 1, i, 1);
+        row[0] = w > y && w - y > steady ? w - y : steady;
+        row[1] = w;
+        row[2] = steady;
+    }
+    for (uint32_t j = 0; j < 3 * (n + k); j++) report[j] = rows[j];
+    return say(0, 2, 0, 0);
+}

@@ -1,0 +1,58 @@
+#!/bin/sh
+# Times the proved library beside the plain C version, in several link layouts, and prints the best of each side over all of
+# them, the ratio, and how many demands are worked out. docs/BENCH.md says what the columns mean.
+#
+# Needed: rt, and the library (rt staticlib visnumar).
+set -eu
+here=$(CDPATH='' cd -- "$(dirname -- "$0")" && pwd -P)
+cd "$(dirname -- "$here")"
+archive=target/staticlib/libvisnumar.a
+test -f $archive || { echo "bench: $archive is missing: run 'rt staticlib visnumar' in $PWD" >&2; exit 1; }
+command -v rt >/dev/null || { echo "bench: rt is not on the PATH; its kit has the compiler and linker" >&2; exit 1; }
+kit=$(dirname -- "$(dirname -- "$(rt doc)")")
+processor=$(uname -m)
+tools=$kit/on/$processor/toolchain
+work=$(mktemp -d)
+trap 'rm -rf "$work"' EXIT
+trap 'exit 1' HUP INT TERM
+
+compile() {
+    from=$1 to=$2
+    shift 2
+    "$tools/bin/clang" --target=x86_64-unknown-linux-gnu -nostdinc -isystem tests/c-headers -Iinclude -std=c99 -Wall -Wextra \
+        -Werror -O2 -fPIE "$@" -c "bench/$from.c" -o "$work/$to.o"
+}
+link() {
+    to=$1
+    shift
+    "$kit/on/$processor/bin/rattle-link" --target x86_64-unknown-linux-gnu --toolchain "$tools" -o "$work/$to" "$@" $archive \
+        >"$work/log" 2>&1 || { cat "$work/log"; exit 1; }
+}
+
+compile bench bench
+compile plain plain
+compile plain counted -DCOUNT
+for pad in 16 272 1040 2000 3088; do
+    compile pad pad$pad "-DPAD=$pad"
+    link bench$pad "$work/bench.o" "$work/pad$pad.o" "$work/plain.o"
+    bin/run-built "$work/bench$pad" >>"$work/times"
+done
+link count "$work/bench.o" "$work/pad16.o" "$work/counted.o"
+bin/run-built "$work/count" count >"$work/counts"
+
+echo "A pair in microseconds, the best over rounds and layouts; the ratio is proved / plain."
+awk -F '\t' '
+    BEGIN { printf "%-46s %5s %12s %12s %6s\n", "workload", "pairs", "plain C", "proved", "ratio" }
+    !($1 in plain) { order[++n] = $1; pairs[$1] = $2; plain[$1] = $3; proved[$1] = $4 }
+    { if ($3 < plain[$1]) plain[$1] = $3; if ($4 < proved[$1]) proved[$1] = $4 }
+    END {
+        for (j = 1; j <= n; j++) {
+            name = order[j]
+            printf "%-46s %5d %12.2f %12.2f %6.2f\n", name, pairs[name], plain[name] / 1000, proved[name] / 1000, proved[name] / plain[name]
+        }
+    }' "$work/times"
+echo
+echo "Demands worked out for a pair."
+awk -F '\t' '
+    BEGIN { printf "%-52s %5s %12s %12s\n", "workload", "pairs", "mean", "most" }
+    { printf "%-52s %5d %12d %12d\n", $1, $2, $3, $4 }' "$work/counts"
