@@ -81,6 +81,12 @@ fn wider(x: u16) -> u64
     x as u64
 }
 
+fn number(x: u8) -> u32
+    ensures { λ r. ⌜ (r ≡ x) × (r < 256) ⌝ }
+{
+    x as u32
+}
+
 pub fn half_at(b: &[u8], a: usize) -> u16
     requires { ⌜ a + 1 < length (now b) ⌝ }
     ensures { λ r. ⌜ r ≡ halfAt (now (b .entry)) a ⌝ }
@@ -113,10 +119,10 @@ pub fn all_zero(bytes: &[u8]) -> bool
     requires { ⌜ length (now bytes) ≤ blockSize ⌝ }
     ensures { λ r. ⌜ r ≡ allZero (now (bytes .entry)) ⌝ }
 {
-    let mut sum: u64 = 0;
+    let mut sum: u32 = 0;
     let mut i: usize = 0;
     while i < bytes.len() {
-        sum += wider(wide(bytes[i]));
+        sum += number(bytes[i]);
         i += 1;
     }
     sum == 0

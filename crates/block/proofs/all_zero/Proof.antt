@@ -25,14 +25,11 @@ unfolding sumOf
 loop-holds c =
     search needs
 
-shared-slice-read-wide : tie.Need-shared-slice-read-wide Inv-loop μ-loop
-shared-slice-read-wide c = search needs
+shared-slice-read-number : tie.Need-shared-slice-read-number Inv-loop μ-loop
+shared-slice-read-number c = search needs
 
-wide-requires : tie.Need-wide-requires Inv-loop μ-loop
-wide-requires c κs = search needs
-
-wider-requires : tie.Need-wider-requires Inv-loop μ-loop
-wider-requires c κs = search needs
+number-requires : tie.Need-number-requires Inv-loop μ-loop
+number-requires c κs = search needs
 
 add-sum : tie.Need-add-sum Inv-loop μ-loop
 add-sum c =
@@ -47,9 +44,9 @@ loop-less c =
 
 loop-again : tie.Need-loop-again Inv-loop μ-loop
 loop-again c =
-    let l = c .before .before .before .before .loop in
-    let b = c .before .before .before .before .before .before .args .bytes .now in
-    (search needs, omega (arith, list-more (λ x. x) b (l .i) 0 (omega arith), c .wider .ensures .0, c .before .wide .ensures .0), search needs)
+    let l = c .before .before .before .loop in
+    let b = c .before .before .before .before .before .args .bytes .now in
+    (search needs, omega (arith, list-more (λ x. x) b (l .i) 0 (omega arith), c .number .ensures .0), search needs)
 
 returns : tie.Need-returns Inv-loop μ-loop
 returns c =
@@ -65,9 +62,8 @@ all-zero-spec =
     Inv-loop
     μ-loop
     loop-holds
-    shared-slice-read-wide
-    wide-requires
-    wider-requires
+    shared-slice-read-number
+    number-requires
     add-sum
     add-i
     loop-less
