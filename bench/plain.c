@@ -1,6 +1,7 @@
 /* The same job in plain C, written for speed: two blocks and a report to an answer. It has the savings that the proved code
  * has (the chain, the early end of the phases, later searches start past the last phase, the jump over phases where the
- * old part does not grow, one evaluation against the best so far, the tasks above gathered once a row), ordinary division
+ * old part does not grow, one evaluation against the best so far, a search that starts as far behind its request as the last
+ * window where the old tasks ask for all the time since, the tasks above gathered once a row), ordinary division
  * and arithmetic of 32 bits, which is enough for every number here.
  *
  * With -DCOUNT it counts how often a demand is worked out; without, the counter stays 0 and costs nothing. */
@@ -144,11 +145,16 @@ static inline uint32_t next_phase(const struct term *olds, uint32_t n, uint32_t 
 /* The worst window over all phases with its smallest phase; 0 and the first late phase where there is one. */
 static void over_phases(const struct term *olds, uint32_t n, const struct term *news, uint32_t k, uint32_t c, uint32_t limit,
                         uint32_t *worst, uint32_t *phase) {
-    uint32_t best = 0, at = 0, start = c;
+    uint32_t best = 0, at = 0, start = c, last = 0, reach = 0, base = 0;
     for (uint32_t x = 1; x <= limit; x = next_phase(olds, n, x, limit)) {
         uint32_t shut = best;
         if (best == 0 || demand(olds, n, news, k, c, x, best) > best) {
-            shut = search(olds, n, news, k, c, x, start, limit);
+            uint32_t here = demand(olds, n, news, k, c, x, x), from = start;
+            if (last < reach && x <= base && base + x <= here + last) {
+                uint32_t far = reach + (x - last) < limit ? reach + (x - last) : limit;
+                if (far > from) from = far;
+            }
+            shut = search(olds, n, news, k, c, x, from, limit);
             if (shut == 0) {
                 *worst = 0;
                 *phase = x;
@@ -160,6 +166,9 @@ static void over_phases(const struct term *olds, uint32_t n, const struct term *
             }
             uint32_t low = shut < x + 1 ? shut : x + 1;
             if (low > start) start = low;
+            last = x;
+            reach = shut;
+            base = here;
         }
         if (shut <= x) break;
     }

@@ -98,6 +98,20 @@ module _ (o : List ℕ) (n : ℕ) (w : List ℕ) (k C : ℕ) where
       let b : t - x ≡ t - y = omega arith in
       rw (a, b)
 
+  flat-after : (x t u : ℕ) → t ≡ x + u → flatDemand o n w k C x t ≡ C + oldSum o n x + newSum w k u
+  unfolding flatDemand
+  flat-after x t u e =
+      let a : min t x ≡ x = omega arith in
+      let b : t - x ≡ u = omega arith in
+      rw (a, b)
+
+  -- equally far behind the request, two demands differ by what they are at the request
+  pub flat-shift : (x y u : ℕ) → flatDemand o n w k C y (y + u) + flatDemand o n w k C x x ≡ flatDemand o n w k C x (x + u) + flatDemand o n w k C y y
+  flat-shift x y u =
+      let a = flat-after x (x + u) u (omega arith) in
+      let b = flat-after y (y + u) u (omega arith) in
+      omega (arith, a, b, flat-after x x 0 (omega arith), flat-after y y 0 (omega arith))
+
   -- where the old part does not grow from x to y, the demand at y is nowhere above that at x
   pub flat-calm : (x y t : ℕ) → x ≤ y → oldSum o n y ≤ oldSum o n x → flatDemand o n w k C y t ≤ flatDemand o n w k C x t
   unfolding flatDemand

@@ -9,14 +9,14 @@ use native.Mathlib.Omega.{arith}
 use native.Mathlib.Nat.{add-zero, add-suc, le-trans}
 use Rattle.base.proofs.Search.{Rises, Climbs, Window, window-found, window-by, climb-from, le-or-lt}
 use Rattle.term.specs.Terms.{flatDemand}
-use Rattle.term.proofs.Terms.{flat-rises, flat-same, flat-least}
+use Rattle.term.proofs.Terms.{flat-rises, flat-same, flat-least, flat-shift}
 use Rattle.window.specs.declared.Closing.the-variants.{At, Late}
 use Rattle.window.specs.declared.Worst.{Worst}
 use Rattle.window.specs.declared.Swept.{Swept}
 use Rattle.window.specs.declared.Swept.the-variants.{Over, LateAt}
 use Rattle.window.specs.declared.State.{State}
 use Rattle.window.specs.Worst.{takeOf, nextOf, sweep}
-use Rattle.window.specs.Phases.{closingOf, windowAt, Kept, Seen}
+use Rattle.window.specs.Phases.{closingOf, windowAt, Begun, Told, Kept, Seen}
 
 -- ---- ---- what the demands of one task at all phases have in common
 pub record Family (f : ℕ → ℕ → ℕ) (c : ℕ) : Type 0 where
@@ -24,6 +24,7 @@ pub record Family (f : ℕ → ℕ → ℕ) (c : ℕ) : Type 0 where
   pub same : (x y t : ℕ) → t ≤ x → t ≤ y → f x t ≡ f y t
   pub least : (x t : ℕ) → c ≤ f x t
   pub some : 1 ≤ c
+  pub shift : (x y u : ℕ) → f y (y + u) + f x x ≡ f x (x + u) + f y y
 
 -- no t below `start` closes at x or later
 abbrev pub Unmet : (ℕ → ℕ → ℕ) → ℕ → ℕ → Type 0
@@ -81,8 +82,12 @@ module _ (f : ℕ → ℕ → ℕ) (c limit : ℕ) where
           (λ z. omega (arith, r .least y u, r .some))
           (λ z. omega (arith, w .unmet u z (omega arith), r .same x y u (omega arith) (omega arith)))
 
+  unmet-all : Family f c → (x t : ℕ) → Window (f x) limit t → (u : ℕ) → u < t → u < f x u
+  unmet-all r x t w zero l = omega (arith, r .least x 0, r .some)
+  unmet-all r x t w (suc u) l = w .unmet (suc u) (omega arith) l
+
   module _ (fam : Family f c) (x : ℕ) (s : State) (kept : Kept f c limit x s) where
-    pub seen-best : f x (s .best .window) ≤ s .best .window → Seen f c limit x s (record { best = s .best; start = s .start; shut = s .best .window })
+    pub seen-best : f x (s .best .window) ≤ s .best .window → Seen f c limit x s (record { best = s .best; start = s .start; shut = s .best .window; phase = s .phase; reach = s .reach; base = s .base })
     seen-best e =
         let h : 1 ≤ s .best .window = omega (arith, fam .least x (s .best .window), fam .some) in
         record {
@@ -94,13 +99,15 @@ module _ (f : ℕ → ℕ → ℕ) (c limit : ℕ) where
           shuts = e;
           some = h;
           by = omega arith;
+          past = omega (arith, kept .past);
+          told = record { based = kept .told .based; under = kept .told .under; fits = kept .told .fits };
         }
 
     take-window : (b : Worst) (t y : ℕ) → (t ≤ takeOf b t y .window) × (takeOf b t y .window ≤ max t (b .window))
     unfolding takeOf
     take-window b t y = ⊎-elim (λ h. rw (le-ltb (b .window) t h) (omega arith, omega arith)) (λ h. rw (lt-ltb (b .window) t h) (omega arith, omega arith)) (le-or-lt t (b .window))
 
-    pub seen-window : (t : ℕ) → windowAt f limit x ≡ some t → Seen f c limit x s (record { best = takeOf (s .best) t x; start = max (s .start) (min t (x + 1)); shut = t })
+    pub seen-window : (t : ℕ) → windowAt f limit x ≡ some t → Seen f c limit x s (record { best = takeOf (s .best) t x; start = max (s .start) (min t (x + 1)); shut = t; phase = x; reach = t; base = f x x })
     unfolding nextOf windowAt
     seen-window t e =
         let w = window-found (f x) limit t e in
@@ -114,6 +121,8 @@ module _ (f : ℕ → ℕ → ℕ) (c limit : ℕ) where
           shuts = w .closes;
           some = w .first;
           by = k .0;
+          past = omega arith;
+          told = record { based = λ h. refl; under = unmet-all fam x t w; fits = w .within };
         }
 
     pub sweep-late : x ≤ limit → windowAt f limit x ≡ none → sweep (windowAt f limit) limit ≡ LateAt x
@@ -150,9 +159,11 @@ module _ (f : ℕ → ℕ → ℕ) (c limit : ℕ) where
             first = seen .first;
             low = omega (arith, seen .low);
             unmet = λ y u i g. seen .unmet y u (omega arith) g;
+            past = omega (arith, seen .past);
+            told = seen .told;
           }
 
-  pub kept-first : Family f c → c ≤ limit → Kept f c limit 1 (record { best = (record { window = 0; phase = 0 }); start = c; shut = 0 })
+  pub kept-first : Family f c → c ≤ limit → Kept f c limit 1 (record { best = (record { window = 0; phase = 0 }); start = c; shut = 0; phase = 0; reach = 0; base = 0 })
   unfolding sweep
   kept-first fam h =
       record {
@@ -163,11 +174,33 @@ module _ (f : ℕ → ℕ → ℕ) (c limit : ℕ) where
         first = fam .some;
         low = omega arith;
         unmet = λ y u i g. omega (arith, fam .least y u);
+        past = omega arith;
+        told = record { based = λ h. absurd (omega arith); under = λ u g. absurd (omega arith); fits = omega arith };
       }
 
 pub flat-family : (o : List ℕ) (n : ℕ) (w : List ℕ) (k c : ℕ) → 1 ≤ c → Family (flatDemand o n w k c) c
-flat-family o n w k c h = record { rises = flat-rises o n w k c; same = flat-same o n w k c; least = flat-least o n w k c; some = h }
+flat-family o n w k c h = record { rises = flat-rises o n w k c; same = flat-same o n w k c; least = flat-least o n w k c; some = h; shift = flat-shift o n w k c }
 
--- a search may start where the state says
-pub kept-climbs : (f : ℕ → ℕ → ℕ) (c limit x : ℕ) (s : State) → Family f c → c ≤ limit → x ≤ limit → Kept f c limit x s → Climbs (f x) limit (s .start)
-kept-climbs f c limit x s fam h l k = climb-from (f x) limit (s .start) (fam .rises x) (k .first) (omega (arith, k .low)) (λ u g. k .unmet x u (omega arith) g)
+-- a search may start where the state says, or as far behind the request as the last window where the old tasks ask for all the time since
+pub kept-climbs : (f : ℕ → ℕ → ℕ) (c limit x : ℕ) (s : State) → Family f c → c ≤ limit → x ≤ limit → Kept f c limit x s → (r : ℕ) → Begun s x (f x x) limit r → Climbs (f x) limit r
+kept-climbs f c limit x s fam h l k r =
+    ⊎-elim
+    (λ e. climb-from (f x) limit r (fam .rises x) (omega (arith, k .first)) (omega (arith, k .low)) (λ u g. k .unmet x u (omega arith) (omega arith)))
+    (λ b. climb-from (f x) limit r (fam .rises x) (omega (arith, b .3, k .first)) (omega (arith, b .3, k .low)) (λ u g. ⊎-elim (λ i. behind b u (omega (arith, b .3))) (λ i. k .unmet x u (omega arith) i) (le-or-lt (s .start) u)))
+  where
+    behind : (s .phase < s .reach) × (x ≤ s .base) × (s .base + (x - s .phase) ≤ f x x) × (r ≡ max (s .start) (min (s .reach + (x - s .phase)) limit)) → (u : ℕ) → u < s .reach + (x - s .phase) → u < f x u
+    behind b u g = ⊎-elim early (λ i. ⊎-elim (late i) (between i) (le-or-lt x u)) (le-or-lt u (s .phase))
+      where
+        early : u ≤ s .phase → u < f x u
+        early i = omega (arith, k .told .under u (omega (arith, b .0)), fam .same (s .phase) x u i (omega (arith, k .past)))
+
+        between : s .phase < u → u < x → u < f x u
+        between i j = omega (arith, b .1, k .told .based (omega (arith, b .1)), fam .rises u (s .phase) u (omega arith), fam .same u (s .phase) (s .phase) (omega arith) (omega arith), fam .same x u u (omega arith) (omega arith))
+
+        late : s .phase < u → x ≤ u → u < f x u
+        late i j = later (u - x) (omega arith) (k .told .under (s .phase + (u - x)) (omega (arith, k .past)))
+          where
+            later : (v : ℕ) → x + v ≡ u → s .phase + v < f (s .phase) (s .phase + v) → u < f x u
+            later v e o =
+                let z : x + v < f x (x + v) = omega (arith, fam .shift (s .phase) x v, o, b .2, k .told .based (omega (arith, b .1)), k .past) in
+                rw e at z

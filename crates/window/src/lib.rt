@@ -5,7 +5,7 @@ ghost use Rattle.base.specs.Search.{windowOf};
 ghost use Rattle.base.proofs.Search.{Climbs};
 ghost use Rattle.term.specs.Terms.{Ready, flatDemand};
 ghost use Rattle.window.specs.Worst.{takeOf, sweep};
-ghost use Rattle.window.specs.Phases.{closingOf, windowAt, Kept, Stepped};
+ghost use Rattle.window.specs.Phases.{closingOf, windowAt, Begun, Kept, Stepped};
 
 // Where a window closed, or that it did not close in time.
 pub enum Closing {
@@ -25,11 +25,15 @@ pub enum Swept {
     LateAt(u64),
 }
 
-// Between phases: the worst so far, where searches may start, and a time at which the phase just seen closes.
+// Between phases: the worst so far, where searches may start, and a time at which the phase just seen closes; then the last
+// phase that was searched, its window, and its demand at the request itself (0 where none was searched).
 pub struct State {
     pub best: Worst,
     pub start: u64,
     pub shut: u64,
+    pub phase: u64,
+    pub reach: u64,
+    pub base: u64,
 }
 
 pub enum Step {
@@ -96,6 +100,35 @@ fn larger(a: u64, b: u64) -> u64
     if a < b { b } else { a }
 }
 
+fn least(a: u64, b: u64) -> u64
+    ensures { λ r. ⌜ r ≡ min a b ⌝ }
+{
+    if a < b { a } else { b }
+}
+
+// Where the search at x may start: as far behind the request as the last window, if the old tasks have since asked for all
+// the time that went by.
+fn start_at(s: State, x: u64, a: u64, limit: u64) -> u64
+    requires { ⌜ (s .phase < x) × (x ≤ limit) × (s .reach ≤ limit) × (limit < 65536) ⌝ }
+    ensures { λ r. ⌜ Begun s x a limit r ⌝ }
+{
+    let start = s.start;
+    if s.reach <= s.phase {
+        return start;
+    }
+    if s.base < x {
+        return start;
+    }
+    if a < s.base {
+        return start;
+    }
+    let gone = x - s.phase;
+    if a - s.base < gone {
+        return start;
+    }
+    larger(start, least(s.reach + gone, limit))
+}
+
 // One phase: it brings nothing where it closes at the worst so far, else its window is searched for.
 fn see<'a>(
     old: &'a [u64],
@@ -119,9 +152,13 @@ fn see<'a>(
             best: best,
             start: start,
             shut: w,
+            phase: s.phase,
+            reach: s.reach,
+            base: s.base,
         });
     }
-    match search(old, n, new, k, c, x, start, limit) {
+    let a = term::demand(old, n, new, k, c, x, x);
+    match search(old, n, new, k, c, x, start_at(s, x, a, limit), limit) {
         Closing::At(t) => {
             let b = best.take(t, x);
             let f = start_after(start, t, x);
@@ -129,6 +166,9 @@ fn see<'a>(
                 best: b,
                 start: f,
                 shut: t,
+                phase: x,
+                reach: t,
+                base: a,
             })
         }
         Closing::Late => Step::Stop,
@@ -155,6 +195,9 @@ pub fn over_phases<'a>(
         best: none,
         start: c,
         shut: 0,
+        phase: 0,
+        reach: 0,
+        base: 0,
     };
     let mut x: u64 = 1;
     while x <= limit {

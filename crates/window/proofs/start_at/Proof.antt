@@ -1,0 +1,52 @@
+use borrow.Author.Needs.{needs}
+use native.Mathlib.Omega.{arith}
+use mathlib.Core.Path.{refl}
+use mathlib.Core.Logic.{inl, inr}
+use borrow.Author.Needs.{needs}
+use Rattle.window.proofs.start_at.Statement.{statement}
+use Rattle.window.proofs.start_at.Tie as tie
+use Rattle.window.proofs.start_at.Reads as reads
+use Rattle.window.proofs.start_at.Lts as lts
+use Rattle.window.proofs.larger.Reads as larger-reads
+use Rattle.window.proofs.least.Reads as least-reads
+
+returns : tie.Need-returns
+returns c = inl refl
+
+returns-2 : tie.Need-returns-2
+returns-2 c = inl refl
+
+returns-3 : tie.Need-returns-3
+returns-3 c = inl refl
+
+sub-gone : tie.Need-sub-gone
+sub-gone c = search needs
+
+returns-4 : tie.Need-returns-4
+returns-4 c = inl refl
+
+add-least : tie.Need-add-least
+add-least c = search needs
+
+least-requires : tie.Need-least-requires
+least-requires c κs = search needs
+
+larger-requires : tie.Need-larger-requires
+larger-requires c κs = search needs
+
+returns-5 : tie.Need-returns-5
+returns-5 c = inr (omega arith, omega arith, omega arith, rw (c .larger .ensures, c .before .least .ensures))
+
+pub start-at-spec : {M : Type 1} → statement M
+start-at-spec =
+    tie.close
+    (tie.spec
+    returns
+    returns-2
+    returns-3
+    sub-gone
+    returns-4
+    add-least
+    least-requires
+    larger-requires
+    returns-5)
