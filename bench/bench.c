@@ -151,8 +151,13 @@ static int hostile(int which) {
     case 6: /* new tasks of periods 2, 4, 8 .. 4096 above: a long chain after each phase of an aborted one */
         olds[0] = task(VISNUMAR_KIND_ABORTED, 50, 0, 65535, 65535, 16384, 0);
         n = 17;
-        for (k = 0; k < 6; k++) news[k] = task(VISNUMAR_KIND_NEW, k, k, 2u << k, 2u << k, 1, 0);
+        for (k = 0; k < 12; k++) news[k] = task(VISNUMAR_KIND_NEW, k, k, 2u << k, 2u << k, 1, 0);
         for (; k < 17; k++) news[k] = task(VISNUMAR_KIND_NEW, 200 + k, k, 65535, 65535, 1, 0);
+        break;
+    case 7: /* an aborted task that leaves every fourth tick free, a long completed one, new ones of periods 2 and 4 */
+        olds[0] = task(VISNUMAR_KIND_ABORTED, 0, 0, 4, 4, 3, 0);
+        olds[1].execution = 16000;
+        for (k = 0; k < 2; k++) news[k] = task(VISNUMAR_KIND_NEW, k, k, 2u << k, 2u << k, 1, 0);
         break;
     default:
         return 0;
@@ -243,8 +248,9 @@ int main(int words, char **word) {
     bad |= random_work("random 17 + 17, accepted, seed 4", 4, 200, 17, 17, 0, 0, 65535);
     static const char *const hostiles[] = {"hostile 1: aborted 65,506 ticks on top", "hostile 2: aborted of five periods on top",
                                            "hostile 3: one tick above D - 29", "hostile 4: one tick under D - 29",
-                                           "hostile 5: T = 2 on top, new tick by tick", "hostile 6: new T = 2, 4, 8 .. on top"};
-    for (int which = 1; which <= 6; which++) {
+                                           "hostile 5: T = 2 on top, new tick by tick", "hostile 6: new T = 2, 4, 8 .. on top",
+                                           "hostile 7: three of four ticks aborted"};
+    for (int which = 1; which <= 7; which++) {
         if (hostile(which)) bad |= work(hostiles[which - 1]);
         else bad |= fail("no such pair", hostiles[which - 1]);
     }

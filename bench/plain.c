@@ -1,17 +1,20 @@
 /* The same job in plain C, written for speed: two blocks and a report to an answer. It has the savings that the proved code
- * has (the chain, the early end of the phases, later searches start past the last phase, the jump over phases where the
- * old part does not grow, one evaluation against the best so far, a search that starts as far behind its request as the last
- * window where the old tasks ask for all the time since, the tasks above gathered once a row), ordinary division
- * and arithmetic of 32 bits, which is enough for every number here.
+ * has: the chain; phases backwards from where the windows settle, each search from where the last one ended; the jump over
+ * phases where the old part does not grow; one evaluation against the worst so far; forwards only for the first late phase;
+ * the tasks above gathered once a row. It divides as C divides, in 32 bits, which is enough for every number here.
  *
- * With -DCOUNT it counts how often a demand is worked out; without, the counter stays 0 and costs nothing. */
+ * With -DCOUNT it counts how often a demand is worked out, as the proved code does it: there the steady window of an old task
+ * is searched with its aborted tasks cut off, which gives the same window in more steps than with their whole time. Without,
+ * the counter stays 0 and costs nothing. */
 #include "plain.h"
 
 unsigned long plain_evaluations = 0;
 #ifdef COUNT
 #define COUNTED plain_evaluations++
+#define WHOLE 0
 #else
 #define COUNTED ((void)0)
+#define WHOLE 1
 #endif
 
 enum { completed = 0, aborted = 1, entering = 2, most = 30 };
@@ -142,8 +145,8 @@ static inline uint32_t next_phase(const struct term *olds, uint32_t n, uint32_t 
     return next;
 }
 
-/* The worst window over all phases with its smallest phase; 0 and the first late phase where there is one. */
-static void over_phases(const struct term *olds, uint32_t n, const struct term *news, uint32_t k, uint32_t c, uint32_t limit,
+/* The same forwards: it finds the first late phase. */
+static void forwards(const struct term *olds, uint32_t n, const struct term *news, uint32_t k, uint32_t c, uint32_t limit,
                         uint32_t *worst, uint32_t *phase) {
     uint32_t best = 0, at = 0, start = c, last = 0, reach = 0, base = 0;
     for (uint32_t x = 1; x <= limit; x = next_phase(olds, n, x, limit)) {
@@ -176,6 +179,58 @@ static void over_phases(const struct term *olds, uint32_t n, const struct term *
     *phase = at;
 }
 
+/* The last phase up to x at which an old term grows, or 1. */
+static inline uint32_t last_phase(const struct term *olds, uint32_t n, uint32_t x) {
+    uint32_t last = 1;
+    for (uint32_t j = 0; j < n; j++) {
+        uint32_t rest = (x - 1) % olds[j].period, grows = olds[j].last == 0 ? 1 : olds[j].execution;
+        if (rest < grows) return x;
+        uint32_t at = x - 1 - rest + grows;
+        if (at > last) last = at;
+    }
+    return last;
+}
+
+/* The worst window over all phases with its smallest phase; 0 and the first late phase where there is one. Goes backwards from
+ * the phase at which the windows settle; only where some phase is late, forwards. */
+static void over_phases(const struct term *olds, uint32_t n, const struct term *news, uint32_t k, uint32_t c, uint32_t limit,
+                        uint32_t *worst, uint32_t *phase) {
+    uint32_t settled = search(olds, n, news, k, c, limit, c, limit);
+    uint32_t first = settled == 0 ? 0 : search(olds, n, news, k, c, 1, c, limit);
+    if (first == 0) {
+        forwards(olds, n, news, k, c, limit, worst, phase);
+        return;
+    }
+    uint32_t best = first, at = 1, bar = first, last = settled, reach = settled, base = settled, x = settled;
+    if (settled > first) {
+        best = settled;
+        at = settled;
+        bar = settled - 1;
+    }
+    while (x > 1) {
+        x = last_phase(olds, n, x - 1);
+        if (x == 1) break;
+        if (demand(olds, n, news, k, c, x, bar) <= bar) continue;
+        uint32_t here = demand(olds, n, news, k, c, x, x);
+        if (here + (last - x) <= base) continue;
+        uint32_t t = search(olds, n, news, k, c, x, reach - (last - x), limit);
+        if (t == 0) {
+            forwards(olds, n, news, k, c, limit, worst, phase);
+            return;
+        }
+        if (t > bar) {
+            best = t;
+            at = x;
+            bar = t - 1;
+        }
+        last = x;
+        reach = t;
+        base = here;
+    }
+    *worst = best;
+    *phase = at;
+}
+
 struct visnumar_answer plain_analyse(const uint8_t *old_block, size_t old_len, const uint8_t *new_block, size_t new_len,
                                      uint32_t *report, size_t report_len) {
     struct table old, new;
@@ -196,10 +251,10 @@ struct visnumar_answer plain_analyse(const uint8_t *old_block, size_t old_len, c
             uint32_t b = gather(after, &new, own->rank, 0);
             over_phases(before, a, after, b, c, d, &row[0], &row[1]);
             if (row[0] == 0) return say(9, 0, i, row[1]);
-            for (uint32_t j = 0; j < a; j++) before[j].last = 0;
+            if (WHOLE) for (uint32_t j = 0; j < a; j++) before[j].last = 0;
             row[2] = search(before, a, after, 0, c, d, c, d);
         } else {
-            for (uint32_t j = 0; j < a; j++) before[j].last = 0;
+            if (WHOLE) for (uint32_t j = 0; j < a; j++) before[j].last = 0;
             uint32_t steady = search(before, a, after, 0, c, d, c, d);
             if (steady == 0) return say(9, 0, i, 0);
             row[0] = steady;

@@ -1,5 +1,5 @@
 -- Laws of flat demands: they rise with t, agree before both requests, and do not grow where the old terms do not.
-use Prim.Native.Nat.{ℕ, zero, suc, _+_, _*_, _%_, _-_, _≤_, _<_, min}
+use Prim.Native.Nat.{ℕ, zero, suc, _+_, _*_, _%_, _-_, _/_, _≤_, _<_, min}
 use mathlib.Core.Path.{_≡_}
 use mathlib.Core.Bool.{Bool, true, false, cond}
 use mathlib.Core.List.{List}
@@ -9,14 +9,14 @@ use lib.Dec.{eqb, ltb}
 use borrow.Author.Tests.{lt-ltb, le-ltb}
 use native.Mathlib.Omega.{arith}
 use native.Mathlib.Numerals.{add-one}
-use native.Mathlib.Nat.{mod-lt}
+use native.Mathlib.Nat.{mod-lt, suc-mul, div-add-mod'}
 use Rattle.base.specs.Sums.{sum}
 use Rattle.base.specs.Numbers.{jobsIn, cutIn}
 use Rattle.base.proofs.Sums.{sum-le}
-use Rattle.base.proofs.Numbers.{jobs-rise, cut-rises}
+use Rattle.base.proofs.Numbers.{jobs-rise, cut-rises, jobs-whole, jobs-begun, cut-is}
 use Rattle.base.proofs.Search.{le-or-lt}
 use Rattle.base.proofs.Flat.{jobs-flat, cut-flat}
-use Rattle.term.specs.Terms.{Ready, shareOf, before, after, oldSum, newSum, flatDemand, growsBy, nextOf, nextPhase}
+use Rattle.term.specs.Terms.{Ready, shareOf, before, after, oldSum, newSum, flatDemand, growsBy, nextOf, nextPhase, prevOf, prevPhase}
 
 pub sum-more : (f : ℕ → ℕ) (n : ℕ) → sum (n + 1) f ≡ sum n f + f n
 unfolding sum
@@ -81,6 +81,78 @@ pub phase-within : (l : List ℕ) (n x limit : ℕ) → nextPhase l n x limit �
 unfolding nextPhase
 phase-within l zero x limit = omega arith
 phase-within l (suc n) x limit = omega (arith, phase-within l n x limit)
+
+-- from where it stopped in period k to the end of it a term stays
+before-level : (T C mark k y z : ℕ) → growsBy C mark < T → k * T + growsBy C mark ≤ z → y ≤ k * T + T → before y T C mark ≤ before z T C mark
+unfolding before growsBy
+before-level T C mark k y z s h l = by-mark (eqb mark 0) s h
+  where
+    next : k * T + T ≡ suc k * T + 0
+    next = omega (arith, suc-mul k T)
+
+    by-mark : (b : Bool) → cond b 1 C < T → k * T + cond b 1 C ≤ z → cond b (jobsIn T C y) (cutIn T C y) ≤ cond b (jobsIn T C z) (cutIn T C z)
+    by-mark true r g =
+        omega (
+          arith,
+          jobs-rise T C y (k * T + T) l,
+          jobs-whole T C (k * T + T) (suc k) (omega arith) next,
+          suc-mul k C,
+          jobs-begun T C (k * T + 1) k 0 (omega arith) (omega arith),
+          jobs-rise T C (k * T + 1) z g,
+        )
+    by-mark false r g =
+        omega (
+          arith,
+          cut-rises T C y (k * T + T) l,
+          cut-is T C (k * T + T) (suc k) 0 (omega arith) next,
+          suc-mul k C,
+          cut-is T C (k * T + C) k C r (omega arith),
+          cut-rises T C (k * T + C) z g,
+        )
+
+-- from the last phase at which it grows to m + 1, a term stays
+pub record Level (f : ℕ → ℕ) (m prev : ℕ) : Type 0 where
+  pub within : prev ≤ m + 1
+  pub level : (z y : ℕ) → prev ≤ z → z ≤ y → y ≤ m + 1 → f y ≤ f z
+
+prev-level : (T C mark m : ℕ) → 1 ≤ T → Level (λ t. before t T C mark) m (prevOf m T C mark)
+unfolding prevOf
+prev-level T C mark m s = ⊎-elim stays grows (le-or-lt (growsBy C mark) (m % T))
+  where
+    grows : m % T < growsBy C mark → Level (λ t. before t T C mark) m (cond (ltb (m % T) (growsBy C mark)) (m + 1) (m - m % T + growsBy C mark))
+    grows h = rw (lt-ltb (m % T) (growsBy C mark) h) (record { within = omega arith; level = λ z y a b d. before-rises T C mark y z (omega arith) })
+
+    stays : growsBy C mark ≤ m % T → Level (λ t. before t T C mark) m (cond (ltb (m % T) (growsBy C mark)) (m + 1) (m - m % T + growsBy C mark))
+    stays h =
+        let e = div-add-mod' m T in
+        let r = mod-lt m s in
+        rw (le-ltb (m % T) (growsBy C mark) h)
+        (record { within = omega arith; level = λ z y a b d. before-level T C mark (m / T) y z (omega arith) (omega arith) (omega arith) })
+
+pub phase-level : (l : List ℕ) (n m : ℕ) → Ready l n → Level (oldSum l n) m (prevPhase l n m)
+unfolding prevPhase sum shareOf
+phase-level l zero m r = record { within = omega arith; level = λ z y a b d. omega arith }
+phase-level l (suc n) m r =
+    let a = phase-level l n m (record { room = r .room; few = omega (arith, r .few); good = λ j g. r .good j (omega arith) }) in
+    let b = last in
+    record { within = omega (arith, a .within, b .within); level = λ z y h g d. omega (arith, a .level z y (omega arith) g d, b .level z y (omega arith) g d) }
+  where
+    last : Level (λ t. shareOf (before t) l n) m (shareOf (prevOf m) l n)
+    last = prev-level (getD l (4 * n + 1) 0) (getD l (4 * n + 2) 0) (getD l (4 * n + 3) 0) m (r .good n (omega arith) .some)
+
+-- once it is m + 1 it stays so
+pub phase-stays : (l : List ℕ) (n m j : ℕ) → j ≤ n → Ready l n → m < prevPhase l j m → prevPhase l j m ≡ prevPhase l n m
+unfolding prevPhase
+phase-stays l n m j h r g = omega (arith, up n h, phase-level l n m r .within, phase-level l j m (record { room = r .room; few = omega (arith, r .few); good = λ i k. r .good i (omega arith) }) .within)
+  where
+    up : (n : ℕ) → j ≤ n → prevPhase l j m ≤ prevPhase l n m
+    up zero h = let e : j ≡ 0 = omega arith in rw e (omega arith)
+    up (suc n) h = ⊎-elim (λ i. omega (arith, up n i)) (λ i. let e : j ≡ suc n = omega arith in rw e (omega arith)) (le-or-lt j n)
+
+pub phase-some : (l : List ℕ) (n m : ℕ) → 1 ≤ prevPhase l n m
+unfolding prevPhase
+phase-some l zero m = omega arith
+phase-some l (suc n) m = omega (arith, phase-some l n m)
 
 module _ (o : List ℕ) (n : ℕ) (w : List ℕ) (k C : ℕ) where
   pub flat-rises : (x s t : ℕ) → s ≤ t → flatDemand o n w k C x s ≤ flatDemand o n w k C x t

@@ -7,6 +7,8 @@ use Rattle.term.proofs.demand.Reads as demand
 use Rattle.term.proofs.demand.Kinds as demand-kinds
 use Rattle.term.proofs.next_phase.Reads as next-phase
 use Rattle.term.proofs.next_phase.Kinds as next-phase-kinds
+use Rattle.term.proofs.prev_phase.Reads as prev-phase
+use Rattle.term.proofs.prev_phase.Kinds as prev-phase-kinds
 
 pub demand-unique : (κs : Lfts 1) (a : Dens κs demand-kinds.ps) (r r′ : resT demand-kinds.r κs .Denot) (s s′ : AtExit (endedOf 1 demand-kinds.ps demand-kinds.r) κs)
     → demand.Post κs a r s → demand.Post κs a r′ s′ → r ≡ r′
@@ -15,3 +17,7 @@ demand-unique κs a r r′ s s′ p q = p ∙ sym q
 pub next-phase-unique : (κs : Lfts 1) (a : Dens κs next-phase-kinds.ps) (r r′ : resT next-phase-kinds.r κs .Denot) (s s′ : AtExit (endedOf 1 next-phase-kinds.ps next-phase-kinds.r) κs)
     → next-phase.Post κs a r s → next-phase.Post κs a r′ s′ → r ≡ r′
 next-phase-unique κs a r r′ s s′ p q = p ∙ sym q
+
+pub prev-phase-unique : (κs : Lfts 1) (a : Dens κs prev-phase-kinds.ps) (r r′ : resT prev-phase-kinds.r κs .Denot) (s s′ : AtExit (endedOf 1 prev-phase-kinds.ps prev-phase-kinds.r) κs)
+    → prev-phase.Post κs a r s → prev-phase.Post κs a r′ s′ → r ≡ r′
+prev-phase-unique κs a r r′ s s′ p q = p ∙ sym q

@@ -1,5 +1,5 @@
 -- Flat terms: what one task adds to a demand, as four numbers of a list: reciprocal of T, T, C, and a mark (old, 1 where cut off) or Y (new). Definitions only.
-use Prim.Native.Nat.{ℕ, zero, suc, _+_, _*_, _%_, _-_, _≤_, _<_, min}
+use Prim.Native.Nat.{ℕ, zero, suc, _+_, _*_, _%_, _-_, _≤_, _<_, min, max}
 use mathlib.Core.Path.{_≡_}
 use mathlib.Core.Bool.{cond}
 use mathlib.Core.List.{List}
@@ -56,3 +56,12 @@ nextOf x T C mark = cond (ltb (x % T) (growsBy C mark)) (x + 1) (x - x % T + T +
 unfoldable pub nextPhase : List ℕ → ℕ → ℕ → ℕ → ℕ
 nextPhase l zero x limit = limit + 1
 nextPhase l (suc n) x limit = min (nextPhase l n x limit) (shareOf (nextOf x) l n)
+
+-- the last phase up to m + 1 at which a term grows: m + 1 itself, or where it stopped in its period
+unfoldable pub prevOf : ℕ → ℕ → ℕ → ℕ → ℕ
+prevOf m T C mark = cond (ltb (m % T) (growsBy C mark)) (m + 1) (m - m % T + growsBy C mark)
+
+-- the last at which one of n terms grows, at least 1
+unfoldable pub prevPhase : List ℕ → ℕ → ℕ → ℕ
+prevPhase l zero m = 1
+prevPhase l (suc n) m = max (prevPhase l n m) (shareOf (prevOf m) l n)

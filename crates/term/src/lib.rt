@@ -1,9 +1,9 @@
 // Demands over flat terms, and the next phase at which the old terms grow. Divides by reciprocals, knows no task.
 ghost use mathlib.Core.Path.{_≡_};
-ghost use Prim.Native.Nat.{_+_, _*_, _/_, _<_, _≤_, _-_, min};
+ghost use Prim.Native.Nat.{_+_, _*_, _/_, _<_, _≤_, _-_, min, max};
 ghost use Rattle.base.specs.Numbers.{jobsIn, cutIn};
 ghost use Rattle.base.proofs.Recip.{recipOf};
-ghost use Rattle.term.specs.Terms.{Good, Ready, before, oldSum, newSum, flatDemand, growsBy, nextOf, nextPhase};
+ghost use Rattle.term.specs.Terms.{Good, Ready, before, oldSum, newSum, flatDemand, growsBy, nextOf, nextPhase, prevOf, prevPhase};
 
 fn least(a: u64, b: u64) -> u64
     ensures { λ r. ⌜ r ≡ min a b ⌝ }
@@ -128,4 +128,45 @@ pub fn next_phase(terms: &[u64], n: usize, x: u64, limit: u64) -> u64
         j += 1;
     }
     next
+}
+
+fn larger(a: u64, b: u64) -> u64
+    ensures { λ r. ⌜ r ≡ max a b ⌝ }
+{
+    if a < b { b } else { a }
+}
+
+// The last phase up to m + 1 at which one old term grows.
+fn prev_of(recip: u64, p: u64, c: u64, mark: u64, m: u64) -> u64
+    requires { ⌜ Good recip p c × (m < 131072) ⌝ }
+    ensures { λ r. ⌜ r ≡ prevOf m p c mark ⌝ }
+{
+    let q = whole(m, recip, p);
+    let r = m - q * p;
+    let g = grows_by(c, mark);
+    if r < g {
+        return m + 1;
+    }
+    m - r + g
+}
+
+// The last phase up to m + 1 at which the old terms grow, or 1.
+pub fn prev_phase(terms: &[u64], n: usize, m: u64) -> u64
+    requires { ⌜ Ready (now terms) n × (m < 65536) ⌝ }
+    ensures { λ r. ⌜ r ≡ prevPhase (now (terms .entry)) n m ⌝ }
+{
+    let mut prev: u64 = 1;
+    let mut j: usize = 0;
+    while j < n {
+        if m < prev {
+            return prev;
+        }
+        let at = 4 * j;
+        prev = larger(
+            prev,
+            prev_of(terms[at], terms[at + 1], terms[at + 2], terms[at + 3], m),
+        );
+        j += 1;
+    }
+    prev
 }

@@ -3,3 +3,4 @@ pub mod Steady
 pub mod Sweep
 pub mod Unique
 pub mod Sides
+pub mod Behind

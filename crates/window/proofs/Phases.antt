@@ -42,13 +42,13 @@ closing-late none e = refl
 
 module _ (f : ℕ → ℕ → ℕ) (c limit : ℕ) where
   -- a phase that closes by a v no later than the best brings nothing
-  calm : (s : Worst) (y v : ℕ) → 1 ≤ v → v ≤ s .window → s .window ≤ limit → f y v ≤ v → nextOf (Over s) (windowAt f limit y) y ≡ Over s
+  pub calm : (s : Worst) (y v : ℕ) → 1 ≤ v → v ≤ s .window → s .window ≤ limit → f y v ≤ v → nextOf (Over s) (windowAt f limit y) y ≡ Over s
   unfolding nextOf windowAt takeOf
   calm s y v h l m e =
       let k = window-by (f y) limit v h (omega arith) e in
       rw (k .is) (rw (le-ltb (s .window) (k .at) (omega (arith, k .by))))
 
-  more : (s : Worst) (r : Swept) (a : ℕ) → sweep (windowAt f limit) a ≡ Over s → nextOf (Over s) (windowAt f limit (suc a)) (suc a) ≡ r → sweep (windowAt f limit) (suc a) ≡ r
+  pub more : (s : Worst) (r : Swept) (a : ℕ) → sweep (windowAt f limit) a ≡ Over s → nextOf (Over s) (windowAt f limit (suc a)) (suc a) ≡ r → sweep (windowAt f limit) (suc a) ≡ r
   unfolding sweep
   more s r a e n = rw e n
 
@@ -82,7 +82,7 @@ module _ (f : ℕ → ℕ → ℕ) (c limit : ℕ) where
           (λ z. omega (arith, r .least y u, r .some))
           (λ z. omega (arith, w .unmet u z (omega arith), r .same x y u (omega arith) (omega arith)))
 
-  unmet-all : Family f c → (x t : ℕ) → Window (f x) limit t → (u : ℕ) → u < t → u < f x u
+  pub unmet-all : Family f c → (x t : ℕ) → Window (f x) limit t → (u : ℕ) → u < t → u < f x u
   unmet-all r x t w zero l = omega (arith, r .least x 0, r .some)
   unmet-all r x t w (suc u) l = w .unmet (suc u) (omega arith) l
 

@@ -3,3 +3,4 @@ pub mod Demand
 pub mod Worst
 pub mod Sound
 pub mod Phases
+pub mod Behind

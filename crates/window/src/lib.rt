@@ -6,6 +6,10 @@ ghost use Rattle.base.proofs.Search.{Climbs};
 ghost use Rattle.term.specs.Terms.{Ready, flatDemand};
 ghost use Rattle.window.specs.Worst.{takeOf, sweep};
 ghost use Rattle.window.specs.Phases.{closingOf, windowAt, Begun, Kept, Stepped};
+ghost use Rattle.window.specs.Behind.{Bar, Held, Turned, Tells};
+ghost use mathlib.Core.Option.{some};
+ghost use mathlib.Core.Bool.{cond};
+ghost use lib.Dec.{ltb};
 
 // Where a window closed, or that it did not close in time.
 pub enum Closing {
@@ -39,6 +43,26 @@ pub struct State {
 pub enum Step {
     Go(State),
     Stop,
+}
+
+// Between phases that go by backwards: the worst so far, then the last phase that was searched, its window, and its demand at
+// the request itself.
+pub struct Back {
+    pub best: Worst,
+    pub phase: u64,
+    pub reach: u64,
+    pub base: u64,
+}
+
+pub enum Turn {
+    On(Back),
+    Off,
+}
+
+// The worst window over all phases, or that some phase is late.
+pub enum Tried {
+    Found(Worst),
+    Lost,
 }
 
 // The least closing t up to the limit, the request coming at x, where none below `start` closes.
@@ -104,6 +128,12 @@ fn least(a: u64, b: u64) -> u64
     ensures { λ r. ⌜ r ≡ min a b ⌝ }
 {
     if a < b { a } else { b }
+}
+
+fn less(a: u64, b: u64) -> u64
+    ensures { λ r. ⌜ r ≡ a - b ⌝ }
+{
+    if a < b { 0 } else { a - b }
 }
 
 // Where the search at x may start: as far behind the request as the last window, if the old tasks have since asked for all
@@ -175,15 +205,131 @@ fn see<'a>(
     }
 }
 
-// The worst window over all phases from 1 to the limit with its smallest phase, or the first late phase.
-pub fn over_phases<'a>(
+// The largest window that changes nothing at an earlier phase: of equal ones the smaller phase counts.
+fn bar_of(best: Worst) -> u64
+    requires { ⌜ 1 ≤ best .window ⌝ }
+    ensures { λ r. ⌜ Bar best r ⌝ }
+{
+    if 1 < best.phase {
+        return best.window - 1;
+    }
+    best.window
+}
+
+// The worst so far with a window at an earlier phase that passes the bar.
+fn kept_of(best: Worst, bar: u64, t: u64, x: u64) -> Worst
+    ensures { λ r. ⌜ r ≡ cond (ltb bar t) (record { window = t; phase = x }) best ⌝ }
+{
+    if bar < t {
+        return Worst {
+            window: t,
+            phase: x,
+        };
+    }
+    best
+}
+
+// One phase, backwards: it brings nothing where it closes at the bar, or where the old tasks ask for too little before it to
+// reach as far behind the request as the last window; else its window is searched for from there.
+fn look<'a>(
     old: &'a [u64],
     n: usize,
     new: &'a [u64],
     k: usize,
     c: u64,
     limit: u64,
-) -> Swept
+    s: Back,
+    x: u64,
+) -> Turn
+    requires { ⌜ Ready (now old) n × Ready (now new) k × (1 ≤ c) × (c ≤ limit) × (limit < 65536) × (1 ≤ x) ⌝ }
+    requires { ⌜ Held (flatDemand (now old) n (now new) k c) limit (x + 1) s ⌝ }
+    ensures { λ r. ⌜ Turned (flatDemand (now (old .entry)) n (now (new .entry)) k c) limit x s r ⌝ }
+{
+    let best = s.best;
+    let bar = bar_of(best);
+    if x == 1 {
+        return Turn::On(s);
+    }
+    if term::demand(old, n, new, k, c, x, bar) <= bar {
+        return Turn::On(s);
+    }
+    let a = term::demand(old, n, new, k, c, x, x);
+    let gone = s.phase - x;
+    if gone <= less(s.base, a) {
+        return Turn::On(s);
+    }
+    match search(old, n, new, k, c, x, s.reach - gone, limit) {
+        Closing::At(t) => {
+            let b = kept_of(best, bar, t, x);
+            Turn::On(Back {
+                best: b,
+                phase: x,
+                reach: t,
+                base: a,
+            })
+        }
+        Closing::Late => Turn::Off,
+    }
+}
+
+// Backwards from where the windows settle: each search starts where the last one ended.
+fn backwards<'a>(
+    old: &'a [u64],
+    n: usize,
+    new: &'a [u64],
+    k: usize,
+    c: u64,
+    limit: u64,
+    settled: u64,
+    first: u64,
+) -> Tried
+    requires { ⌜ Ready (now old) n × Ready (now new) k × (1 ≤ c) × (c ≤ limit) × (limit < 65536) ⌝ }
+    requires { ⌜ (windowAt (flatDemand (now old) n (now new) k c) limit limit ≡ some settled) × (windowAt (flatDemand (now old) n (now new) k c) limit 1 ≡ some first) ⌝ }
+    ensures { λ r. ⌜ Tells (windowAt (flatDemand (now (old .entry)) n (now (new .entry)) k c) limit) limit r ⌝ }
+{
+    let one = Worst {
+        window: first,
+        phase: 1,
+    };
+    let mut s = Back {
+        best: one.take(settled, settled),
+        phase: settled,
+        reach: settled,
+        base: settled,
+    };
+    let mut x: u64 = settled;
+    while 1 < x {
+        let z = term::prev_phase(old, n, x - 2);
+        match look(old, n, new, k, c, limit, s, z) {
+            Turn::On(r) => {
+                s = r;
+                x = z;
+            }
+            Turn::Off => {
+                return Tried::Lost;
+            }
+        }
+    }
+    let worst = s.best;
+    Tried::Found(worst)
+}
+
+// Backwards, where the windows at the limit and at 1 close.
+fn try_back<'a>(old: &'a [u64], n: usize, new: &'a [u64], k: usize, c: u64, limit: u64) -> Tried
+    requires { ⌜ Ready (now old) n × Ready (now new) k × (1 ≤ c) × (c ≤ limit) × (limit < 65536) ⌝ }
+    ensures { λ r. ⌜ Tells (windowAt (flatDemand (now (old .entry)) n (now (new .entry)) k c) limit) limit r ⌝ }
+{
+    match search(old, n, new, k, c, limit, c, limit) {
+        Closing::At(settled) => match search(old, n, new, k, c, 1, c, limit) {
+            Closing::At(first) => backwards(old, n, new, k, c, limit, settled, first),
+            Closing::Late => Tried::Lost,
+        },
+        Closing::Late => Tried::Lost,
+    }
+}
+
+// The same forwards: it finds the first late phase, but may search far at every phase.
+fn forwards<'a>(old: &'a [u64], n: usize, new: &'a [u64], k: usize, c: u64, limit: u64) -> Swept
     requires { ⌜ Ready (now old) n × Ready (now new) k × (1 ≤ c) × (c ≤ limit) × (limit < 65536) ⌝ }
     ensures { λ r. ⌜ r ≡ sweep (windowAt (flatDemand (now (old .entry)) n (now (new .entry)) k c) limit) limit ⌝ }
 {
@@ -217,4 +363,22 @@ pub fn over_phases<'a>(
     }
     let worst = s.best;
     Swept::Over(worst)
+}
+
+// The worst window over all phases from 1 to the limit with its smallest phase, or the first late phase.
+pub fn over_phases<'a>(
+    old: &'a [u64],
+    n: usize,
+    new: &'a [u64],
+    k: usize,
+    c: u64,
+    limit: u64,
+) -> Swept
+    requires { ⌜ Ready (now old) n × Ready (now new) k × (1 ≤ c) × (c ≤ limit) × (limit < 65536) ⌝ }
+    ensures { λ r. ⌜ r ≡ sweep (windowAt (flatDemand (now (old .entry)) n (now (new .entry)) k c) limit) limit ⌝ }
+{
+    match try_back(old, n, new, k, c, limit) {
+        Tried::Found(w) => Swept::Over(w),
+        Tried::Lost => forwards(old, n, new, k, c, limit),
+    }
 }
