@@ -13,14 +13,17 @@ abbrev μ-loop : tie.MeasureT-loop
 loop-holds : tie.Need-loop-holds Inv-loop μ-loop
 loop-holds c = search needs
 
-mul-read-damage : tie.Need-mul-read-damage Inv-loop μ-loop
-mul-read-damage c = search needs
+mul-d : tie.Need-mul-d Inv-loop μ-loop
+mul-d c = search needs
 
-array-copy-out-read-damage : tie.Need-array-copy-out-read-damage Inv-loop μ-loop
-array-copy-out-read-damage c = search needs
+array-copy-out-d : tie.Need-array-copy-out-d Inv-loop μ-loop
+array-copy-out-d c = search needs
 
-read-damage-requires : tie.Need-read-damage-requires Inv-loop μ-loop
-read-damage-requires c κs = search needs
+read-requires : tie.Need-read-requires Inv-loop μ-loop
+read-requires c κs = search needs
+
+read-requires-2 : tie.Need-read-requires-2 Inv-loop μ-loop
+read-requires-2 c κs = search needs
 
 add-k : tie.Need-add-k Inv-loop μ-loop
 add-k c = search needs
@@ -41,9 +44,10 @@ read-damages-spec =
     Inv-loop
     μ-loop
     loop-holds
-    mul-read-damage
-    array-copy-out-read-damage
-    read-damage-requires
+    mul-d
+    array-copy-out-d
+    read-requires
+    read-requires-2
     add-k
     loop-less
     loop-again

@@ -13,14 +13,14 @@ abbrev μ-loop : tie.MeasureT-loop
 loop-holds : tie.Need-loop-holds Inv-loop μ-loop
 loop-holds c = search needs
 
-mul-write-put : tie.Need-mul-write-put Inv-loop μ-loop
-mul-write-put c = search needs
+mul-p : tie.Need-mul-p Inv-loop μ-loop
+mul-p c = search needs
 
-array-copy-out-write-put : tie.Need-array-copy-out-write-put Inv-loop μ-loop
-array-copy-out-write-put c = search needs
+array-copy-out-p : tie.Need-array-copy-out-p Inv-loop μ-loop
+array-copy-out-p c = search needs
 
-write-put-requires : tie.Need-write-put-requires Inv-loop μ-loop
-write-put-requires c κs = search needs
+write-requires : tie.Need-write-requires Inv-loop μ-loop
+write-requires c κs = search needs
 
 add-k : tie.Need-add-k Inv-loop μ-loop
 add-k c = search needs
@@ -41,9 +41,9 @@ write-puts-spec =
     Inv-loop
     μ-loop
     loop-holds
-    mul-write-put
-    array-copy-out-write-put
-    write-put-requires
+    mul-p
+    array-copy-out-p
+    write-requires
     add-k
     loop-less
     loop-again
