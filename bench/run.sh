@@ -33,6 +33,7 @@ compile bench bench
 compile plain plain
 compile plain counted -DCOUNT
 for pad in 16 272 1040 2000 3088; do
+    if [ -t 2 ]; then echo "layout $pad" >&2; fi
     compile pad pad$pad "-DPAD=$pad"
     link bench$pad "$work/bench.o" "$work/pad$pad.o" "$work/plain.o"
     bin/run-built "$work/bench$pad" >>"$work/times"
