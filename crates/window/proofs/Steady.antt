@@ -22,7 +22,7 @@ use Rattle.window.specs.Demand.{sumAbove, jobs, oldTerm, steadyDemand, p
 
 -- ---- the same for an old task
 
-old-rises : (k : Kind) (x : Task) (a b : ℕ) → a ≤ b → oldTerm k x a ≤ oldTerm k x b
+pub old-rises : (k : Kind) (x : Task) (a b : ℕ) → a ≤ b → oldTerm k x a ≤ oldTerm k x b
 old-rises completed x a b h = jobs-rise (x .period) (x .execution) a b h
 old-rises aborted x a b h = cut-rises (x .period) (x .execution) a b h
 old-rises new x a b h = omega arith
@@ -32,16 +32,16 @@ old-le zero x t l p = le-refl (jobs x t)
 old-le (suc zero) x t l p = cut-le (x .period) (x .execution) t p
 old-le (suc (suc k)) x t l p = absurd (omega arith)
 
-old-grows : (k : ℕ) (x : Task) (t : ℕ) → k < 2 → 1 ≤ x .period → oldTerm (kindAt k) x (suc t) < jobs x (suc t) → oldTerm (kindAt k) x t < oldTerm (kindAt k) x (suc t)
+pub old-grows : (k : ℕ) (x : Task) (t : ℕ) → k < 2 → 1 ≤ x .period → oldTerm (kindAt k) x (suc t) < jobs x (suc t) → oldTerm (kindAt k) x t < oldTerm (kindAt k) x (suc t)
 old-grows zero x t l p h = absurd (omega arith)
 old-grows (suc zero) x t l p h = cut-grows (x .period) (x .execution) t p h
 old-grows (suc (suc k)) x t l p h = absurd (omega arith)
 
-cond-le : (b : Bool) (m n : ℕ) → m ≤ n → cond b m 0 ≤ cond b n 0
+pub cond-le : (b : Bool) (m n : ℕ) → m ≤ n → cond b m 0 ≤ cond b n 0
 cond-le true m n h = h
 cond-le false m n h = omega arith
 
-cond-lt : (b : Bool) (l m n : ℕ) → (m < n → l < m) → cond b m 0 < cond b n 0 → cond b l 0 < cond b m 0
+pub cond-lt : (b : Bool) (l m n : ℕ) → (m < n → l < m) → cond b m 0 < cond b n 0 → cond b l 0 < cond b m 0
 cond-lt true l m n h q = h q
 cond-lt false l m n h q = absurd (omega arith)
 
@@ -51,11 +51,11 @@ cond-none false m h = refl
 
 -- ---- two demands that close by the same times have one window
 
-record Closed (f : ℕ → ℕ) (t : ℕ) : Type 0 where
-  at : ℕ
-  first : 1 ≤ at
-  by : at ≤ t
-  closes : f at ≤ at
+pub record Closed (f : ℕ → ℕ) (t : ℕ) : Type 0 where
+  pub at : ℕ
+  pub first : 1 ≤ at
+  pub by : at ≤ t
+  pub closes : f at ≤ at
 
 module _ (limit : ℕ) where
   abbrev Carries : (ℕ → ℕ) → (ℕ → ℕ) → Type 0
@@ -85,12 +85,12 @@ module _ (limit : ℕ) where
           let l : s ≡ t = omega (arith, v .by, w .by) in
           cc
 
--- ---- n terms f, and g at most them, that grow wherever they are below
+-- ---- n whole terms f, and cut-off ones g that grow wherever they are below: where these close, the whole ones do, or sooner
 
 module _ (n C : ℕ) (f g : ℕ → ℕ → ℕ) (some : 1 ≤ C)
     (up : (t j : ℕ) → j < n → g t j ≤ g (suc t) j)
     (grow : (t j : ℕ) → j < n → g (suc t) j < f (suc t) j → g t j < g (suc t) j) where
-  full : (t : ℕ) → 1 ≤ t → C + sum n (g t) ≤ t → Closed (λ u. C + sum n (f u)) t
+  pub full : (t : ℕ) → 1 ≤ t → C + sum n (g t) ≤ t → Closed (λ u. C + sum n (f u)) t
   full zero h c = absurd (not-suc-le-zero h)
   full (suc t) h c =
       elim (eq-zero-or-pos (sum n (λ j. f (suc t) j - g (suc t) j))) [

@@ -106,9 +106,9 @@ module _ (n : ℕ) (tk : ℕ → Task) (G : Sound n tk) (B bound : ℕ → ℕ) 
             elim (decLe t x) [
               | yes m ↦
                   let f = to-whole n tk G i (tk i .execution + B i) x (omega (arith, G .execution i l)) t m (c .some) (omega (arith, at-x)) in
-                  stays n tk R S i r (s + f .0) (s + t) (omega arith)
-                  (closes n tk R S B budget i r s s (f .0) l p (st .1) (le-refl s) (f .1) (rw e tt)
-                  (before n tk R G L S i s x (f .0) (B i) l (st .1 .quiet) q-is px (omega arith) (omega (arith, in-time, G .in-period i l)) (omega (arith, f .3))))
+                  stays n tk R S i r (s + f .at) (s + t) (omega (arith, f .by))
+                  (closes n tk R S B budget i r s s (f .at) l p (st .1) (le-refl s) (f .first) (rw e tt)
+                  (before n tk R G L S i s x (f .at) (B i) l (st .1 .quiet) q-is px (omega (arith, f .by)) (omega (arith, f .by, in-time, G .in-period i l)) (omega (arith, f .closes))))
               | no m ↦
                   closes n tk R S B budget i r s s t l p (st .1) (le-refl s) (c .some) (rw e tt)
                   (past n tk R G L S i s x t (B i) l e (st .1 .quiet) q-is px (omega arith) (omega (arith, in-time, G .in-period i l)) at-x)
