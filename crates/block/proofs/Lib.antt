@@ -3,5 +3,5 @@ pub mod Codes
 pub mod Heads
 pub mod Zeros
 pub mod Reading
-pub mod Unique
 pub mod Kept
+pub mod Tables

@@ -105,6 +105,10 @@ pub record Read : Type 0 where
   pub reply : Answer
   pub list : List ℕ
 
+-- an answer and a list, as an outcome
+abbrev pub outcome : Answer → List ℕ → Read
+outcome a l = record { reply = a; list = l }
+
 abbrev pub filled : ℕ → Reading → List ℕ → Read
 filled side (spoilt a) l = record { reply = a; list = l }
 filled side (holds mode xs) l =

@@ -18,7 +18,7 @@ use Rattle.block.specs.Format.{mostTasks}
 use Rattle.block.specs.Answers.{answer, done, firstOf}
 use Rattle.block.specs.Block.{Reading, holds, spoilt, readingOf, loaded, loadedOf}
 use Rattle.block.specs.Legal.{Legal}
-use Rattle.reader.proofs.Tables.{table-tasks}
+use Rattle.block.proofs.Tables.{table-tasks}
 use Rattle.block.proofs.Reading.{reading-legal}
 use Rattle.window.specs.Sound.{Sound, heldBy}
 use Rattle.rows.specs.declared.Judged.{Judged}

@@ -1,5 +1,2 @@
-pub mod Doubles
-pub mod Tables
-pub mod Numbers
 pub mod Outcomes
 pub mod Unique

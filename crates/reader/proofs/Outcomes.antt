@@ -9,11 +9,7 @@ use Rattle.block.specs.declared.Answer.{Answer}
 use Rattle.block.specs.declared.Verdict.the-variants.{Passed, Refused}
 use Rattle.block.specs.Format.{listSize}
 use Rattle.block.specs.Answers.{answer}
-use Rattle.block.specs.Block.{tasksIn, countByte, modeNumber, blockVerdict, readingOf, listOf, Read, readOf}
-
--- an answer and a list, as an outcome
-abbrev pub outcome : Answer → List ℕ → Read
-outcome a l = record { reply = a; list = l }
+use Rattle.block.specs.Block.{tasksIn, countByte, modeNumber, blockVerdict, readingOf, listOf, Read, outcome, readOf}
 
 -- both halves at once
 pub both : {o : Read} {a : Answer} {l : List ℕ} (b : Answer) (m : List ℕ) → o ≡ outcome a l → b ≡ a → m ≡ l → (b ≡ o .reply) × (m ≡ o .list)

@@ -1,19 +1,13 @@
--- Each public function's contract leaves one answer, and the reader's one content of the lent list.
+-- Each public function's contract leaves one answer and one content of what is lent.
 use mathlib.Core.Path.{_≡_, sym, _∙_}
 use denote.Ref.{now}
 use contract.Lifetimes.{Lfts}
 use borrow.Fn.Kinds.{Dens, resT, endedOf}
 use denote.Triple.Clauses.{AtExit}
-use Rattle.reader.proofs.check_doubles.Reads as check-doubles
-use Rattle.reader.proofs.check_doubles.Kinds as check-doubles-kinds
 use Rattle.reader.proofs.load.Reads as load
 use Rattle.reader.proofs.load.Kinds as load-kinds
 use Rattle.reader.proofs.read.Reads as read
 use Rattle.reader.proofs.read.Kinds as read-kinds
-
-pub check-doubles-unique : (κs : Lfts 1) (a : Dens κs check-doubles-kinds.ps) (r r′ : resT check-doubles-kinds.r κs .Denot) (s s′ : AtExit (endedOf 1 check-doubles-kinds.ps check-doubles-kinds.r) κs)
-    → check-doubles.Post κs a r s → check-doubles.Post κs a r′ s′ → r ≡ r′
-check-doubles-unique κs a r r′ s s′ p q = p ∙ sym q
 
 pub load-unique : (κs : Lfts 1) (a : Dens κs load-kinds.ps) (r r′ : resT load-kinds.r κs .Denot) (s s′ : AtExit (endedOf 1 load-kinds.ps load-kinds.r) κs)
     → load.Post κs a r s → load.Post κs a r′ s′ → r ≡ r′

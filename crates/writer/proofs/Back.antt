@@ -21,8 +21,8 @@ use Rattle.block.specs.Legal.{Small, Bytes}
 use Rattle.block.proofs.Verdicts.{refuse-passed, first-at, first-right, each-at, each-all}
 use Rattle.block.proofs.Heads.{headed-own, head-headed}
 use Rattle.block.proofs.Zeros.{zeros-are}
-use Rattle.reader.proofs.Numbers.{seven, list-length}
-use Rattle.writer.proofs.Written.{sum-front}
+use Rattle.numbers.proofs.Numbers.{seven, list-length}
+use Rattle.maker.proofs.Written.{sum-front}
 use Rattle.writer.proofs.Writes.{write-done}
 use Rattle.block.proofs.Reading.{Held, reading-held, block-head, block-length, block-side, block-count, block-body, block-records, block-doubles, block-task, reading-legal}
 

@@ -1,6 +1,6 @@
 -- `write` answers as the paper says, and the block holds the tasks or is as it was.
 use Rattle.writer.proofs.Writes.{list-room, list-whole, list-side, list-few, made-tasks, write-head, write-sevens, write-doubles, write-done, lent-kept, lent-written}
-use Rattle.writer.proofs.Written.{block-long}
+use Rattle.maker.proofs.Written.{block-long}
 use Rattle.block.specs.Block.{listHead, eachSeven, eachDouble, tasksIn, tasksOf, numbersPart}
 use Rattle.block.specs.Answers.{firstOf}
 use Rattle.block.specs.Record.{taskFrom}

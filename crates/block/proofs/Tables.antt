@@ -1,0 +1,36 @@
+-- A table filled task by task, and the tasks of a table.
+use Prim.Native.Nat.{ℕ, suc, _+_, _-_, _<_}
+use mathlib.Core.Path.{_≡_, refl, sym, _∙_}
+use mathlib.Core.List.{List, [], _∷_, _++_, append-assoc}
+use native.Mathlib.Numerals.{add-one}
+use native.Mathlib.Omega.{arith}
+use lib.ListN.{length, take, set, replicate}
+use lib.Seq.{set-at, take-at}
+use Rattle.base.specs.Lists.{upTo}
+use Rattle.base.proofs.Lists.{up-length}
+use Rattle.block.specs.declared.Task.{Task}
+use Rattle.block.specs.declared.Table.{Table}
+use Rattle.block.specs.Format.{mostTasks}
+use Rattle.block.specs.Checks.{noTask}
+use Rattle.block.specs.Block.{tableOf}
+
+-- one task more
+pub table-more : (f : ℕ → Task) (l : List Task) (x : Task) (k : ℕ) → k < mostTasks → l ≡ upTo f k ++ replicate (mostTasks - k) noTask → x ≡ f k
+    → set l k x ≡ upTo f (k + 1) ++ replicate (mostTasks - (k + 1)) noTask
+unfolding upTo
+table-more f l x k h e q =
+    let m : mostTasks - k ≡ suc (mostTasks - suc k) = omega arith in
+    rw (add-one, e, m, set-at (upTo f k) noTask (replicate (mostTasks - suc k) noTask) x k (up-length f k), q)
+    (sym (append-assoc (upTo f k) (f k ∷ []) (replicate (mostTasks - suc k) noTask)))
+
+-- the whole table
+pub table-is : (f : ℕ → Task) (t : Table) (n k : ℕ) → k ≡ n → t .count ≡ n → t .tasks ≡ upTo f k ++ replicate (mostTasks - k) noTask → t ≡ tableOf (upTo f n)
+table-is f t n k h c e =
+    let l : length (upTo f n) ≡ n = up-length f n in
+    let g : t .tasks ≡ upTo f n ++ replicate (mostTasks - length (upTo f n)) noTask = rw (l, ← h) e in
+    let d : t .count ≡ length (upTo f n) = c ∙ sym l in
+    λ i. record { tasks = g i; count = d i }
+
+-- the tasks that a table says
+pub table-tasks : (xs : List Task) → take (tableOf xs .count) (tableOf xs .tasks) ≡ xs
+table-tasks xs = take-at xs (replicate (mostTasks - length xs) noTask) (length xs) refl

@@ -1,0 +1,2 @@
+pub mod Doubles
+pub mod Unique

@@ -1,0 +1,44 @@
+-- `record_at` gives the task that sixteen bytes say.
+use Rattle.block.specs.Record.{taskOf}
+use borrow.Author.Needs.{needs}
+use Rattle.records.proofs.record_at.Statement.{statement}
+use Rattle.records.proofs.record_at.Tie as tie
+
+shared-slice-read-t3 : tie.Need-shared-slice-read-t3
+shared-slice-read-t3 c = search needs
+
+shared-slice-read-t5 : tie.Need-shared-slice-read-t5
+shared-slice-read-t5 c = search needs
+
+half-at-requires : tie.Need-half-at-requires
+half-at-requires c κs = search needs
+
+half-at-requires-2 : tie.Need-half-at-requires-2
+half-at-requires-2 c κs = search needs
+
+half-at-requires-3 : tie.Need-half-at-requires-3
+half-at-requires-3 c κs = search needs
+
+half-at-requires-4 : tie.Need-half-at-requires-4
+half-at-requires-4 c κs = search needs
+
+half-at-requires-5 : tie.Need-half-at-requires-5
+half-at-requires-5 c κs = search needs
+
+returns : tie.Need-returns
+unfolding taskOf
+returns c =
+    cc
+
+pub record-at-spec : {M : Type 1} → statement M
+record-at-spec =
+    tie.close
+    (tie.spec
+    shared-slice-read-t3
+    shared-slice-read-t5
+    half-at-requires
+    half-at-requires-2
+    half-at-requires-3
+    half-at-requires-4
+    half-at-requires-5
+    returns)

@@ -1,0 +1,124 @@
+-- `put_tasks` puts n tasks to the front of a list. Invariant: the list holds the first k tasks, and the rest is as it was.
+use Rattle.numbers.proofs.Numbers.{list-more}
+use Rattle.block.specs.Block.{recordPart, tasksIn, listOf}
+use Rattle.block.specs.Record.{taskOf, numbersOf}
+use Rattle.block.specs.Format.{listSize}
+use Rattle.base.specs.Lists.{upTo}
+use lib.ListN.{length, drop}
+use mathlib.Core.List.{_++_, flatMap}
+use mathlib.Core.Path.{_≡_, refl, ap, _∙_}
+use Prim.Native.Nat.{ℕ, _≤_, _*_, _-_}
+use borrow.Author.Needs.{needs}
+use native.Mathlib.Omega.{arith}
+use Rattle.tasks.proofs.put_tasks.Statement.{statement}
+use Rattle.tasks.proofs.put_tasks.Tie as tie
+
+abbrev Inv-loop : tie.InvT-loop
+Inv-loop block n list₀ k₀ list k =
+    (k ≤ n) × (length list ≡ length list₀) × (list ≡ listOf (tasksIn block k) ++ drop (listSize * k) list₀)
+
+abbrev μ-loop : tie.MeasureT-loop
+μ-loop block n list₀ k₀ list k =
+    n - k
+
+loop-holds : tie.Need-loop-holds Inv-loop μ-loop
+unfolding upTo flatMap
+loop-holds c =
+    (search needs, refl, refl)
+
+mul-from : tie.Need-mul-from Inv-loop μ-loop
+mul-from c = search needs
+
+add-from : tie.Need-add-from Inv-loop μ-loop
+add-from c = search needs
+
+add-record-at : tie.Need-add-record-at Inv-loop μ-loop
+add-record-at c = search needs
+
+sub-record-at : tie.Need-sub-record-at Inv-loop μ-loop
+sub-record-at c = search needs
+
+part-record-at-start : tie.Need-part-record-at-start Inv-loop μ-loop
+part-record-at-start c = search needs
+
+part-record-at-end : tie.Need-part-record-at-end Inv-loop μ-loop
+part-record-at-end c = search needs
+
+record-at-requires : tie.Need-record-at-requires Inv-loop μ-loop
+record-at-requires c κs = search needs
+
+mul-at : tie.Need-mul-at Inv-loop μ-loop
+mul-at c = search needs
+
+add-put-numbers : tie.Need-add-put-numbers Inv-loop μ-loop
+add-put-numbers c = search needs
+
+mul-put-numbers : tie.Need-mul-put-numbers Inv-loop μ-loop
+mul-put-numbers c = search needs
+
+sub-put-numbers : tie.Need-sub-put-numbers Inv-loop μ-loop
+sub-put-numbers c = search needs
+
+part-put-numbers-start : tie.Need-part-put-numbers-start Inv-loop μ-loop
+part-put-numbers-start c = search needs
+
+part-put-numbers-end : tie.Need-part-put-numbers-end Inv-loop μ-loop
+part-put-numbers-end c =
+    search needs
+
+put-numbers-requires : tie.Need-put-numbers-requires Inv-loop μ-loop
+put-numbers-requires c κs = search needs
+
+add-k : tie.Need-add-k Inv-loop μ-loop
+add-k c = search needs
+
+loop-less : tie.Need-loop-less Inv-loop μ-loop
+loop-less c =
+    search needs
+
+loop-again : tie.Need-loop-again Inv-loop μ-loop
+loop-again c =
+    let a = c .before .before .before .before .before .before .before .before .before .before .args in
+    let l = c .before .before .before .before .before .before .before .loop in (
+      search needs,
+      search needs,
+      list-more (λ k. taskOf (recordPart (a .block .now) k)) (l .list) (a .list .now) _ (l .k) (l .inv .2) (c .before .before .put-numbers .ensures ∙ ap numbersOf (c .before .before .before .before .record-at .ensures)),
+    )
+
+same-length : tie.Need-same-length Inv-loop μ-loop
+same-length c =
+    search needs
+
+returns : tie.Need-returns Inv-loop μ-loop
+returns c =
+    let a = c .before .before .before .before .args in
+    let l = c .before .loop in
+    let e : l .k ≡ a .n = omega arith in
+    l .inv .2 ∙ ap (λ (m : ℕ). listOf (tasksIn (a .block .now) m) ++ drop (listSize * m) (a .list .now)) e
+
+pub put-tasks-spec : {M : Type 1} → statement M
+put-tasks-spec =
+    tie.close
+    (tie.spec
+    Inv-loop
+    μ-loop
+    loop-holds
+    mul-from
+    add-from
+    add-record-at
+    sub-record-at
+    part-record-at-start
+    part-record-at-end
+    record-at-requires
+    mul-at
+    add-put-numbers
+    mul-put-numbers
+    sub-put-numbers
+    part-put-numbers-start
+    part-put-numbers-end
+    put-numbers-requires
+    add-k
+    loop-less
+    loop-again
+    same-length
+    returns)

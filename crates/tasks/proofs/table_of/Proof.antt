@@ -1,0 +1,105 @@
+-- `table_of` gives the table of n records. Invariant: the table has the first k tasks, empty places behind them, and count n.
+use Rattle.block.proofs.Tables.{table-more, table-is}
+use Rattle.block.specs.Block.{recordPart, tasksIn}
+use Rattle.block.specs.Checks.{noTask}
+use Rattle.block.specs.Record.{taskOf}
+use Rattle.block.specs.Format.{mostTasks}
+use Rattle.block.specs.declared.Table.{Table}
+use Rattle.base.specs.Lists.{upTo}
+use lib.ListN.{length, replicate, length-set}
+use mathlib.Core.List.{_++_}
+use mathlib.Core.Path.{_≡_, refl, ap}
+use Prim.Native.Nat.{_≤_, _-_}
+use borrow.Author.Needs.{needs}
+use native.Mathlib.Omega.{arith}
+use Rattle.tasks.proofs.table_of.Statement.{statement}
+use Rattle.tasks.proofs.table_of.Tie as tie
+
+abbrev Inv-loop : tie.InvT-loop
+Inv-loop block n table₀ k₀ table k =
+    (k ≤ n) × (table .count ≡ n) × (length (table .tasks) ≡ mostTasks) × (table .tasks ≡ tasksIn block k ++ replicate (mostTasks - k) noTask)
+
+abbrev μ-loop : tie.MeasureT-loop
+μ-loop block n table₀ k₀ table k =
+    n - k
+
+no-tasks-requires : tie.Need-no-tasks-requires Inv-loop μ-loop
+no-tasks-requires c κs = search needs
+
+loop-holds : tie.Need-loop-holds Inv-loop μ-loop
+unfolding upTo
+loop-holds c =
+    let e = c .no-tasks .ensures in
+    (search needs, refl, ap (λ (t : Table). length (t .tasks)) e, ap (λ (t : Table). t .tasks) e)
+
+mul-at : tie.Need-mul-at Inv-loop μ-loop
+mul-at c = search needs
+
+add-at : tie.Need-add-at Inv-loop μ-loop
+add-at c = search needs
+
+add-record-at : tie.Need-add-record-at Inv-loop μ-loop
+add-record-at c = search needs
+
+sub-record-at : tie.Need-sub-record-at Inv-loop μ-loop
+sub-record-at c = search needs
+
+part-record-at-start : tie.Need-part-record-at-start Inv-loop μ-loop
+part-record-at-start c = search needs
+
+part-record-at-end : tie.Need-part-record-at-end Inv-loop μ-loop
+part-record-at-end c = search needs
+
+record-at-requires : tie.Need-record-at-requires Inv-loop μ-loop
+record-at-requires c κs = search needs
+
+mul-t14 : tie.Need-mul-t14 Inv-loop μ-loop
+mul-t14 c = search needs
+
+element-set-from-table : tie.Need-element-set-from-table Inv-loop μ-loop
+element-set-from-table c = search needs
+
+add-k : tie.Need-add-k Inv-loop μ-loop
+add-k c = search needs
+
+loop-less : tie.Need-loop-less Inv-loop μ-loop
+loop-less c =
+    search needs
+
+loop-again : tie.Need-loop-again Inv-loop μ-loop
+loop-again c =
+    let a = c .before .before .before .before .before .before .args in
+    let l = c .before .before .before .loop in (
+      search needs,
+      l .inv .1,
+      simp length-set (omega arith),
+      table-more (λ k. taskOf (recordPart (a .block .now) k)) (l .table .tasks) _ (l .k) (omega arith) (l .inv .3) (c .record-at .ensures),
+    )
+
+returns : tie.Need-returns Inv-loop μ-loop
+returns c =
+    let a = c .before .before .before .before .args in
+    let l = c .before .loop in
+    table-is (λ k. taskOf (recordPart (a .block .now) k)) (l .table) (a .n) (l .k) (omega arith) (l .inv .1) (l .inv .3)
+
+pub table-of-spec : {M : Type 1} → statement M
+table-of-spec =
+    tie.close
+    (tie.spec
+    Inv-loop
+    μ-loop
+    no-tasks-requires
+    loop-holds
+    mul-at
+    add-at
+    add-record-at
+    sub-record-at
+    part-record-at-start
+    part-record-at-end
+    record-at-requires
+    mul-t14
+    element-set-from-table
+    add-k
+    loop-less
+    loop-again
+    returns)
