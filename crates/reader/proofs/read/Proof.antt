@@ -67,7 +67,17 @@ same-length c = search needs
 
 returns-3 : tie.Need-returns-3
 returns-3 c =
-    both _ _ (read-done _ _ _ (passed (c .before .before .before .before .before .before .before .before .before .before .before)) (omega (arith, c .before .before .before .before .if1 .left, c .before .before .before .before .before .count .ensures))) (cc) (c .before .before .put-tasks .ensures ∙ ap (λ (m : ℕ). listOf (tasksIn (c .before .before .before .before .before .before .before .before .before .before .before .before .before .before .before .before .args .block .now) m) ++ drop (listSize * m) (c .before .before .before .before .before .before .before .before .before .before .before .before .before .before .before .before .args .list .now)) (c .before .before .before .before .before .count .ensures))
+    let k = c .before .before .before .before .before in
+    let a = k .before .before .before .before .before .before .before .before .before .before .before .args in
+    both _ _
+    (read-done _ _ _ (passed (k .before .before .before .before .before .before)) (omega (arith, c .before .before .before .before .if1 .left, k .count .ensures)))
+    (λ i. record {
+      code = 0;
+      side = a .side;
+      «record» = k .before .before .number .ensures .0 i;
+      detail = (k .before .before .before .before .whole .ensures ∙ k .before .before .before .before .before .half-at .ensures) i;
+    })
+    (c .before .before .put-tasks .ensures ∙ ap (λ (m : ℕ). listOf (tasksIn (a .block .now) m) ++ drop (listSize * m) (a .list .now)) (k .count .ensures))
 
 pub read-spec : {M : Type 1} → statement M
 read-spec =
