@@ -1,19 +1,51 @@
--- What a head that passes tells: the block's length, side and count.
+-- The ways out of the checks of a head, and what a head that passes tells: the block's length, side and count.
 use Prim.Native.Nat.{ℕ, _≤_}
 use mathlib.Core.Path.{_≡_}
-use mathlib.Core.Bool.{Bool, true, _&&_}
+use mathlib.Core.Bool.{Bool, true, false, _&&_}
 use mathlib.Core.List.{List}
 use lib.Dec.{eqb, leb}
 use lib.ListN.{length}
 use borrow.Author.Tests.{eqb-true, leb-true, not-false}
 use Rattle.base.specs.Lists.{part}
 use Rattle.base.proofs.Lists.{and-left, and-right}
-use Rattle.block.specs.declared.Verdict.the-variants.{Passed}
-use Rattle.block.specs.Format.{blockSize, mostTasks}
-use Rattle.block.specs.Record.{allZero}
+use Rattle.block.specs.declared.Verdict.the-variants.{Passed, Refused}
+use Rattle.block.specs.Format.{blockSize, mostTasks, checkPlace}
+use Rattle.block.specs.Record.{wordAt, allZero}
 use Rattle.block.specs.Answers.{refusal, firstOf}
-use Rattle.block.specs.Block.{headed, headChecks, sideByte, countByte}
+use Rattle.block.specs.Block.{checkOf, marked, headed, headChecks, sideByte, countByte}
 use Rattle.block.proofs.Verdicts.{first-at, refuse-passed}
+
+-- ---- ways out
+
+-- the check and the sum as the code has them
+pub sealed-as : (b : List ℕ) (w s : ℕ) (t : Bool) → w ≡ wordAt b checkPlace → s ≡ checkOf b → eqb w s ≡ t → eqb (wordAt b checkPlace) (checkOf b) ≡ t
+sealed-as b w s t p q e = rw (← p, ← q) e
+
+module _ (side : ℕ) (b : List ℕ) where
+  pub head-short : eqb (length b) blockSize ≡ false → firstOf (headChecks side b) ≡ Refused (refusal 1 side 0)
+  unfolding firstOf headChecks
+  head-short e = rw e
+
+  module _ (long : eqb (length b) blockSize ≡ true) where
+    pub head-unsealed : eqb (wordAt b checkPlace) (checkOf b) ≡ false → firstOf (headChecks side b) ≡ Refused (refusal 2 side 0)
+    unfolding firstOf headChecks
+    head-unsealed e = rw (long, e)
+
+    module _ (seal : eqb (wordAt b checkPlace) (checkOf b) ≡ true) where
+      pub head-unmarked : marked b ≡ false → firstOf (headChecks side b) ≡ Refused (refusal 3 side 0)
+      unfolding firstOf headChecks
+      head-unmarked e = rw (long, seal, e)
+
+      module _ (mark : marked b ≡ true) where
+        pub head-wrong : headed side b ≡ false → firstOf (headChecks side b) ≡ Refused (refusal 4 side 0)
+        unfolding firstOf headChecks
+        head-wrong e = rw (long, seal, mark, e)
+
+        pub head-passes : headed side b ≡ true → firstOf (headChecks side b) ≡ Passed
+        unfolding firstOf headChecks
+        head-passes e = rw (long, seal, mark, e)
+
+-- ---- a head that passes
 
 -- the parts of four tests that all hold
 module _ (a b c d : Bool) (e : a && b && c && d ≡ true) where

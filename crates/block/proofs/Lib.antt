@@ -1,6 +1,7 @@
 pub mod Verdicts
 pub mod Codes
 pub mod Heads
+pub mod Rules
 pub mod Zeros
 pub mod Reading
 pub mod Kept

@@ -1,7 +1,7 @@
 -- `check_head` gives the first of codes 1 to 4 that a block earns.
-use Rattle.block.specs.Block.{headChecks}
-use Rattle.block.specs.Answers.{firstOf}
-use borrow.Author.Tests.{eq-eqb, ne-eqb}
+use Rattle.block.proofs.Heads.{sealed-as, head-short, head-unsealed, head-unmarked, head-wrong, head-passes}
+use borrow.Author.Tests.{eq-eqb, ne-eqb, not-true, not-false}
+use mathlib.Core.Path.{sym, _∙_}
 use borrow.Author.Needs.{needs}
 use Rattle.heads.proofs.check_head.Statement.{statement}
 use Rattle.heads.proofs.check_head.Tie as tie
@@ -10,9 +10,8 @@ refused-requires : tie.Need-refused-requires
 refused-requires c κs = search needs
 
 returns : tie.Need-returns
-unfolding firstOf headChecks
 returns c =
-    simp (c .refused .ensures, ne-eqb _ _ (c .before .if1 .taken))
+    c .refused .ensures ∙ sym (head-short _ _ (ne-eqb _ _ (c .before .if1 .taken)))
 
 word-at-requires : tie.Need-word-at-requires
 word-at-requires c κs = search needs
@@ -24,9 +23,8 @@ refused-requires-2 : tie.Need-refused-requires-2
 refused-requires-2 c κs = search needs
 
 returns-2 : tie.Need-returns-2
-unfolding firstOf headChecks
 returns-2 c =
-    simp (c .refused2 .ensures, eq-eqb _ _ (c .before .before .before .before .if1 .left), ← c .before .before .before .word-at .ensures .0, ← c .before .before .check-of .ensures, ne-eqb _ _ (c .before .if2 .taken))
+    c .refused2 .ensures ∙ sym (head-unsealed _ _ (eq-eqb _ _ (c .before .before .before .before .if1 .left)) (sealed-as _ _ _ _ (c .before .before .before .word-at .ensures .0) (c .before .before .check-of .ensures) (ne-eqb _ _ (c .before .if2 .taken))))
 
 is-marked-requires : tie.Need-is-marked-requires
 is-marked-requires c κs = search needs
@@ -35,9 +33,8 @@ refused-requires-3 : tie.Need-refused-requires-3
 refused-requires-3 c κs = search needs
 
 returns-3 : tie.Need-returns-3
-unfolding firstOf headChecks
 returns-3 c =
-    simp (c .refused3 .ensures, eq-eqb _ _ (c .before .before .before .before .before .before .if1 .left), ← c .before .before .before .before .before .word-at .ensures .0, ← c .before .before .before .before .check-of .ensures, eq-eqb _ _ (c .before .before .before .if2 .left), ← c .before .before .is-marked .ensures, c .before .if3 .taken)
+    c .refused3 .ensures ∙ sym (head-unmarked _ _ (eq-eqb _ _ (c .before .before .before .before .before .before .if1 .left)) (sealed-as _ _ _ _ (c .before .before .before .before .before .word-at .ensures .0) (c .before .before .before .before .check-of .ensures) (eq-eqb _ _ (c .before .before .before .if2 .left))) (sym (c .before .before .is-marked .ensures) ∙ not-true _ (c .before .if3 .taken)))
 
 is-headed-requires : tie.Need-is-headed-requires
 is-headed-requires c κs = search needs
@@ -46,14 +43,12 @@ refused-requires-4 : tie.Need-refused-requires-4
 refused-requires-4 c κs = search needs
 
 returns-4 : tie.Need-returns-4
-unfolding firstOf headChecks
 returns-4 c =
-    simp (c .refused4 .ensures, eq-eqb _ _ (c .before .before .before .before .before .before .before .before .if1 .left), ← c .before .before .before .before .before .before .before .word-at .ensures .0, ← c .before .before .before .before .before .before .check-of .ensures, eq-eqb _ _ (c .before .before .before .before .before .if2 .left), ← c .before .before .before .before .is-marked .ensures, c .before .before .before .if3 .left, ← c .before .before .is-headed .ensures, c .before .if4 .taken)
+    c .refused4 .ensures ∙ sym (head-wrong _ _ (eq-eqb _ _ (c .before .before .before .before .before .before .before .before .if1 .left)) (sealed-as _ _ _ _ (c .before .before .before .before .before .before .before .word-at .ensures .0) (c .before .before .before .before .before .before .check-of .ensures) (eq-eqb _ _ (c .before .before .before .before .before .if2 .left))) (sym (c .before .before .before .before .is-marked .ensures) ∙ not-false _ (c .before .before .before .if3 .left)) (sym (c .before .before .is-headed .ensures) ∙ not-true _ (c .before .if4 .taken)))
 
 returns-5 : tie.Need-returns-5
-unfolding firstOf headChecks
 returns-5 c =
-    simp (eq-eqb _ _ (c .before .before .before .before .before .before .before .if1 .left), ← c .before .before .before .before .before .before .word-at .ensures .0, ← c .before .before .before .before .before .check-of .ensures, eq-eqb _ _ (c .before .before .before .before .if2 .left), ← c .before .before .before .is-marked .ensures, c .before .before .if3 .left, ← c .before .is-headed .ensures, c .if4 .left)
+    sym (head-passes _ _ (eq-eqb _ _ (c .before .before .before .before .before .before .before .if1 .left)) (sealed-as _ _ _ _ (c .before .before .before .before .before .before .word-at .ensures .0) (c .before .before .before .before .before .check-of .ensures) (eq-eqb _ _ (c .before .before .before .before .if2 .left))) (sym (c .before .before .before .is-marked .ensures) ∙ not-false _ (c .before .before .if3 .left)) (sym (c .before .is-headed .ensures) ∙ not-false _ (c .if4 .left)))
 
 pub check-head-spec : {M : Type 1} → statement M
 check-head-spec =
