@@ -6,10 +6,13 @@ use Rattle.codec_cases.proofs.say_numbers.Statement.{statement}
 use Rattle.codec_cases.proofs.say_numbers.Tie as tie
 
 abbrev Inv-loop : tie.InvT-loop
-Inv-loop numbers i₀ i = i ≤ length numbers
+Inv-loop text numbers i₀ i = i ≤ length numbers
 
 abbrev μ-loop : tie.MeasureT-loop
-μ-loop numbers i₀ i = length numbers - i
+μ-loop text numbers i₀ i = length numbers - i
+
+say-requires : tie.Need-say-requires Inv-loop μ-loop
+say-requires c κs = search needs
 
 loop-holds : tie.Need-loop-holds Inv-loop μ-loop
 loop-holds c = search needs
@@ -41,6 +44,7 @@ say-numbers-spec =
     (tie.spec
     Inv-loop
     μ-loop
+    say-requires
     loop-holds
     mul-say-number
     shared-slice-read-say-number
