@@ -1,5 +1,5 @@
 -- Bytes are all zero exactly if they add up to zero, and exactly if they are so many zeros.
-use Prim.Native.Nat.{ℕ, zero, suc, _+_}
+use Prim.Native.Nat.{ℕ, zero, suc, _+_, _≤_}
 use mathlib.Core.Path.{_≡_, refl, ap}
 use mathlib.Core.Bool.{true}
 use mathlib.Core.List.{List, [], _∷_}
@@ -11,6 +11,11 @@ use Rattle.base.specs.Lists.{every}
 use Rattle.base.specs.Sums.{sumOf}
 use Rattle.base.proofs.Lists.{every-all, and-left, and-right}
 use Rattle.block.specs.Record.{allZero}
+
+-- two numbers that are zero together
+pub same-zero : (m n : ℕ) → m ≤ n → (m ≡ 0 → n ≡ 0) → eqb m 0 ≡ eqb n 0
+same-zero zero n h f = let e : n ≡ 0 = f refl in rw e
+same-zero (suc m) n h f = rw (ne-eqb (suc m) 0 (λ e. omega arith), ne-eqb n 0 (λ e. omega arith))
 
 pub zero-sum : (l : List ℕ) → eqb (sumOf (λ b. b) l) 0 ≡ allZero l
 unfolding sumOf every

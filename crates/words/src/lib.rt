@@ -1,6 +1,6 @@
 // Halves, words and zero bytes of a block, and its check. The definitions that the contracts cite stand in the specs of block.
 ghost use mathlib.Core.Path.{_≡_};
-ghost use Prim.Native.Nat.{_+_, _<_, _≤_};
+ghost use Prim.Native.Nat.{_+_, _<_, max};
 ghost use lib.ListN.{length};
 ghost use Rattle.block.specs.Format.{blockSize};
 ghost use Rattle.block.specs.Record.{halfAt, wordAt, allZero};
@@ -29,21 +29,27 @@ pub fn check_of(b: &[u8]) -> u64
     let mut sum: u64 = 0;
     let mut k: usize = 0;
     while k < CHECK_WORDS {
-        sum += word_at(b, 4 * k);
+        sum = (sum + word_at(b, 4 * k)) % 4294967296;
         k += 1;
     }
-    sum % 4294967296
+    sum
 }
 
+fn larger(a: u8, b: u8) -> u8
+    ensures { λ r. ⌜ r ≡ max a b ⌝ }
+{
+    if a < b { b } else { a }
+}
+
+// Whether the largest byte is zero: the machine takes many at once for that.
 pub fn all_zero(bytes: &[u8]) -> bool
-    requires { ⌜ length (now bytes) ≤ blockSize ⌝ }
     ensures { λ r. ⌜ r ≡ allZero (now (bytes .entry)) ⌝ }
 {
-    let mut sum: u32 = 0;
+    let mut most: u8 = 0;
     let mut i: usize = 0;
     while i < bytes.len() {
-        sum += base::number(bytes[i]);
+        most = larger(most, bytes[i]);
         i += 1;
     }
-    sum == 0
+    most == 0
 }

@@ -1,5 +1,5 @@
--- `all_zero` says whether every byte is zero. Invariant: the sum is that of the first i bytes, at most 255 each.
-use Rattle.block.proofs.Zeros.{zero-sum}
+-- `all_zero` says whether every byte is zero. Invariant: the largest of the first i bytes is at most their sum, and zero only if that is.
+use Rattle.block.proofs.Zeros.{same-zero, zero-sum}
 use Rattle.base.proofs.Sums.{list-more}
 use Rattle.base.specs.Sums.{sumOf}
 use lib.Seq.{take-all}
@@ -13,11 +13,11 @@ use Rattle.words.proofs.all_zero.Statement.{statement}
 use Rattle.words.proofs.all_zero.Tie as tie
 
 abbrev Inv-loop : tie.InvT-loop
-Inv-loop bytes sum₀ i₀ sum i =
-    (i ≤ length bytes) × (sum ≡ sumOf (λ b. b) (take i bytes)) × (sum ≤ 255 * i)
+Inv-loop bytes most₀ i₀ most i =
+    (i ≤ length bytes) × (most ≤ sumOf (λ b. b) (take i bytes)) × (most ≡ 0 → sumOf (λ b. b) (take i bytes) ≡ 0)
 
 abbrev μ-loop : tie.MeasureT-loop
-μ-loop bytes sum₀ i₀ sum i =
+μ-loop bytes most₀ i₀ most i =
     length bytes - i
 
 loop-holds : tie.Need-loop-holds Inv-loop μ-loop
@@ -25,15 +25,11 @@ unfolding sumOf
 loop-holds c =
     search needs
 
-shared-slice-read-number : tie.Need-shared-slice-read-number Inv-loop μ-loop
-shared-slice-read-number c = search needs
+shared-slice-read-larger : tie.Need-shared-slice-read-larger Inv-loop μ-loop
+shared-slice-read-larger c = search needs
 
-number-requires : tie.Need-number-requires Inv-loop μ-loop
-number-requires c κs = search needs
-
-add-sum : tie.Need-add-sum Inv-loop μ-loop
-add-sum c =
-    search needs
+larger-requires : tie.Need-larger-requires Inv-loop μ-loop
+larger-requires c κs = search needs
 
 add-i : tie.Need-add-i Inv-loop μ-loop
 add-i c = search needs
@@ -46,14 +42,15 @@ loop-again : tie.Need-loop-again Inv-loop μ-loop
 loop-again c =
     let l = c .before .before .before .loop in
     let b = c .before .before .before .before .before .args .bytes .now in
-    (search needs, omega (arith, list-more (λ x. x) b (l .i) 0 (omega arith), c .number .ensures .0), search needs)
+    let e = list-more (λ x. x) b (l .i) 0 (omega arith) in
+    (search needs, omega (arith, e, c .larger .ensures, l .inv .1), λ z. omega (arith, e, c .larger .ensures, l .inv .2 (omega (arith, z, c .larger .ensures))))
 
 returns : tie.Need-returns Inv-loop μ-loop
 returns c =
     let l = c .before .loop in
     let b = c .before .before .before .args .bytes .now in
     let e : take (l .i) b ≡ b = take-all (l .i) b (omega arith) in
-    ap (λ (n : ℕ). eqb n 0) (l .inv .1) ∙ rw e (zero-sum b)
+    same-zero (l .most) _ (l .inv .1) (l .inv .2) ∙ rw e (zero-sum b)
 
 pub all-zero-spec : {M : Type 1} → statement M
 all-zero-spec =
@@ -62,9 +59,8 @@ all-zero-spec =
     Inv-loop
     μ-loop
     loop-holds
-    shared-slice-read-number
-    number-requires
-    add-sum
+    shared-slice-read-larger
+    larger-requires
     add-i
     loop-less
     loop-again

@@ -1,9 +1,9 @@
--- `check_of` gives the check of a block. Invariant: the sum is that of the first k words, each below 2^32.
+-- `check_of` gives the check of a block. Invariant: the sum is that of the first k words, modulo 2^32.
 use Rattle.block.specs.Format.{checkWords}
 use Rattle.block.specs.Block.{wordSum}
 use native.Mathlib.Numerals.{add-one}
 use mathlib.Core.Path.{_≡_}
-use Prim.Native.Nat.{_≤_, _*_, _-_}
+use Prim.Native.Nat.{_≤_, _%_, _-_}
 use borrow.Author.Needs.{needs}
 use native.Mathlib.Omega.{arith}
 use Rattle.words.proofs.check_of.Statement.{statement}
@@ -11,7 +11,7 @@ use Rattle.words.proofs.check_of.Tie as tie
 
 abbrev Inv-loop : tie.InvT-loop
 Inv-loop b sum₀ k₀ sum k =
-    (k ≤ checkWords) × (sum ≡ wordSum b k) × (sum ≤ 4294967296 * k)
+    (k ≤ checkWords) × (sum ≡ wordSum b k % 4294967296)
 
 abbrev μ-loop : tie.MeasureT-loop
 μ-loop b sum₀ k₀ sum k =
@@ -42,7 +42,7 @@ loop-less c =
 loop-again : tie.Need-loop-again Inv-loop μ-loop
 unfolding wordSum
 loop-again c =
-    (search needs, rw (add-one) (omega arith), search needs)
+    (search needs, rw (add-one) (omega arith))
 
 returns : tie.Need-returns Inv-loop μ-loop
 returns c =
