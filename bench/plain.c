@@ -3,18 +3,15 @@
  * phases where the old part does not grow; one evaluation against the worst so far; forwards only for the first late phase;
  * the tasks above gathered once a row. It divides as C divides, in 32 bits, which is enough for every number here.
  *
- * With -DCOUNT it counts how often a demand is worked out, as the proved code does it: there the steady window of an old task
- * is searched with its aborted tasks cut off, which gives the same window in more steps than with their whole time. Without,
- * the counter stays 0 and costs nothing. */
+ * With -DCOUNT it counts how often a demand is worked out, which is as often as in the proved code. Without, the counter stays
+ * 0 and costs nothing. */
 #include "plain.h"
 
 unsigned long plain_evaluations = 0;
 #ifdef COUNT
 #define COUNTED plain_evaluations++
-#define WHOLE 0
 #else
 #define COUNTED ((void)0)
-#define WHOLE 1
 #endif
 
 enum { completed = 0, aborted = 1, entering = 2, most = 30 };
@@ -192,10 +189,12 @@ static inline uint32_t last_phase(const struct term *olds, uint32_t n, uint32_t 
 }
 
 /* The worst window over all phases with its smallest phase; 0 and the first late phase where there is one. Goes backwards from
- * the phase at which the windows settle; only where some phase is late, forwards. */
+ * the phase at which the windows settle; only where some phase is late, forwards. Also the window at the last phase, which is
+ * the steady one. */
 static void over_phases(const struct term *olds, uint32_t n, const struct term *news, uint32_t k, uint32_t c, uint32_t limit,
-                        uint32_t *worst, uint32_t *phase) {
+                        uint32_t *worst, uint32_t *phase, uint32_t *steady) {
     uint32_t settled = search(olds, n, news, k, c, limit, c, limit);
+    *steady = settled;
     uint32_t first = settled == 0 ? 0 : search(olds, n, news, k, c, 1, c, limit);
     if (first == 0) {
         forwards(olds, n, news, k, c, limit, worst, phase);
@@ -249,12 +248,10 @@ struct visnumar_answer plain_analyse(const uint8_t *old_block, size_t old_len, c
         uint32_t a = gather(before, &old, own->rank, 1);
         if (own->kind == completed) {
             uint32_t b = gather(after, &new, own->rank, 0);
-            over_phases(before, a, after, b, c, d, &row[0], &row[1]);
+            over_phases(before, a, after, b, c, d, &row[0], &row[1], &row[2]);
             if (row[0] == 0) return say(9, 0, i, row[1]);
-            if (WHOLE) for (uint32_t j = 0; j < a; j++) before[j].last = 0;
-            row[2] = search(before, a, after, 0, c, d, c, d);
         } else {
-            if (WHOLE) for (uint32_t j = 0; j < a; j++) before[j].last = 0;
+            for (uint32_t j = 0; j < a; j++) before[j].last = 0;
             uint32_t steady = search(before, a, after, 0, c, d, c, d);
             if (steady == 0) return say(9, 0, i, 0);
             row[0] = steady;

@@ -19,7 +19,7 @@ use Rattle.window.specs.Demand.{sumAbove, jobs, oldTerm, leftTerm, steadyDemand
 use Rattle.window.specs.Worst.{sweep}
 use Rattle.window.specs.Phases.{windowAt}
 use Rattle.window.proofs.Steady.{later-is-steady}
-use Rattle.above.specs.Roll.{markOf, sixOf, Rolled, isAbove, countAbove, termsAbove, entryOf, leftAbove}
+use Rattle.above.specs.Roll.{one, markOf, sixOf, Rolled, isAbove, countAbove, termsAbove, entryOf, leftAbove}
 use Rattle.above.proofs.Above.{terms-sum}
 use Rattle.rows.specs.Flat.{flatSteady, flatRequest, Tells}
 use Rattle.rows.specs.Row.{steadyWindow, requestWindow, completedRow, abortedRow, newRow, rowBy, rowOf}
@@ -32,9 +32,9 @@ old-is m x zero h e = rw e
 old-is m x (suc zero) h e = rw e
 old-is m x (suc (suc k)) h e = absurd (omega arith)
 
-own-is : (m : ℕ) (x : Task) → x .kind ≡ 2 → before m (x .period) (x .execution) (markOf x) ≡ jobs x m
+whole-is : (m : ℕ) (x : Task) (mark : ℕ) → mark ≡ 0 → before m (x .period) (x .execution) mark ≡ jobs x m
 unfolding before
-own-is m x e = rw e
+whole-is m x mark e = rw e
 
 left-is : (x : Task) (k : ℕ) → k < 2 → x .kind ≡ k → cond (eqb (markOf x) 0) (x .execution) 0 ≡ leftTerm (kindAt k) x
 left-is x zero h e = rw e
@@ -70,10 +70,24 @@ module _ (r : List ℕ) (n : ℕ) (xs : List Task) (i : Task) (tells : Tells r n
     unfolding after
     new-flat u = terms-sum r (rank i) 4 l room n rolled (after u) ∙ entries (after u) 4 (λ x. jobs x (u - x .offset)) (omega arith) (λ j h. refl)
 
-    pub own-flat : Legal 1 xs → (m : ℕ) → oldSum (termsAbove r (rank i) 3 l n) (countAbove r (rank i) n) m ≡ sumAbove i (λ x. jobs x m) xs
-    own-flat legal m =
-        terms-sum r (rank i) 3 l room n rolled (before m)
-        ∙ entries (before m) 3 (λ x. jobs x m) (omega arith) (λ j h. own-is m (task j) (legal .rules j (omega (arith, tells .count)) .new refl))
+    -- a fourth number that is zero for every task gives whole jobs
+    pub whole-steady : (which : ℕ) → which < 6 → ((j : ℕ) → j < n → getD (sixOf (task j)) which 0 ≡ 0)
+        → flatSteady (termsAbove r (rank i) which l n) (countAbove r (rank i) n) (i .execution) (i .deadline) ≡ steadyWindow xs i
+    unfolding flatSteady steadyDemand
+    whole-steady which w z =
+        window-same (flatDemand terms count terms 0 (i .execution) (i .deadline)) (steadyDemand xs i) (i .deadline)
+        (λ u h. omega (
+          arith,
+          flat-steady terms count terms 0 (i .execution) (i .deadline) u h,
+          terms-sum r (rank i) which l room n rolled (before u),
+          entries (before u) which (λ x. jobs x u) w (λ j m. whole-is u (task j) (getD (sixOf (task j)) which 0) (z j m)),
+        ))
+      where
+        terms : List ℕ
+        terms = termsAbove r (rank i) which l n
+
+        count : ℕ
+        count = countAbove r (rank i) n
 
   pub left-flat : Legal 0 xs → leftAbove r (rank i) n ≡ sumAbove i (λ x. leftTerm (kindOf x) x) xs
   unfolding leftAbove
@@ -101,9 +115,11 @@ module _ (i : Task) (some : 1 ≤ i .execution) (o : List ℕ) (n : ℕ) (xs : L
           let m : min u (i .deadline) ≡ u = omega arith in
           rw m (omega (arith, flat-steady old count old 0 (i .execution) (i .deadline) u h, old-flat o n xs i tells l room rolled legal u))
 
-  pub aborted-is : (ys : List Task) → i .kind ≡ 1 → abortedRow (flatSteady old count (i .execution) (i .deadline)) ≡ rowOf xs ys i
+  pub aborted-is : (ys : List Task) → i .kind ≡ 1 → abortedRow (flatSteady (termsAbove o (rank i) 4 l n) count (i .execution) (i .deadline)) ≡ rowOf xs ys i
   unfolding rowOf
-  aborted-is ys e = ap abortedRow steady-old ∙ sym (ap (λ (q : ℕ). rowBy (kindAt q) xs ys i) e)
+  aborted-is ys e =
+      ap abortedRow (whole-steady o n xs i tells l room rolled 4 (omega arith) (λ j h. legal .rules j (omega (arith, tells .count)) .offset refl))
+      ∙ sym (ap (λ (q : ℕ). rowBy (kindAt q) xs ys i) e)
 
   module _ (w : List ℕ) (k : ℕ) (ys : List Task) (told : Tells w k ys) (well : Rolled w k) (l′ : List ℕ) (room′ : length l′ ≡ 120) where
     abbrev later : List ℕ
@@ -131,10 +147,9 @@ module _ (i : Task) (some : 1 ≤ i .execution) (o : List ℕ) (n : ℕ) (xs : L
       own = termsAbove w (rank i) 3 l k
 
       steady-new : flatSteady own count′ (i .execution) (i .deadline) ≡ steadyWindow ys i
-      unfolding flatSteady steadyDemand
       steady-new =
-          window-same (flatDemand own count′ own 0 (i .execution) (i .deadline)) (steadyDemand ys i) (i .deadline)
-          (λ u h. omega (arith, flat-steady own count′ own 0 (i .execution) (i .deadline) u h, own-flat w k ys i told l room well legal′ u))
+          whole-steady w k ys i told l room well 3 (omega arith)
+          (λ j h. ap (λ (q : ℕ). one (eqb q 1)) (legal′ .rules j (omega (arith, told .count)) .new refl))
 
       request-new : flatRequest later count′ (i .execution + leftAbove o (rank i) n) (i .offset + i .deadline) ≡ requestWindow xs ys i
       unfolding flatRequest requestDemand

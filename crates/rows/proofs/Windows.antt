@@ -1,13 +1,14 @@
 -- Laws of the windows that the code works out of flat terms: where their searches may start, and how large they get.
-use Prim.Native.Nat.{ℕ, _≤_, _<_}
+use Prim.Native.Nat.{ℕ, _+_, _*_, _-_, _≤_, _<_}
 use mathlib.Core.Path.{_≡_}
 use mathlib.Core.List.{List}
 use mathlib.Core.Option.{some, none}
 use native.Mathlib.Omega.{arith}
 use borrow.Author.Tests.{lt-leb}
 use Rattle.base.specs.Search.{closes, windowOf}
-use Rattle.base.proofs.Search.{Climbs, climb-start, where-none, window-found}
-use Rattle.term.specs.Terms.{Ready, flatDemand}
+use Rattle.base.proofs.Search.{Climbs, climb-start, where-none, window-found, window-same}
+use Rattle.term.specs.Terms.{Ready, shareOf, after, newSum, flatDemand}
+use lib.ListN.{getD}
 use Rattle.term.proofs.Terms.{flat-least}
 use Rattle.window.specs.declared.Worst.{Worst}
 use Rattle.window.specs.declared.Swept.the-variants.{Over, LateAt}
@@ -15,6 +16,25 @@ use Rattle.window.specs.Worst.{sweep}
 use Rattle.window.specs.Phases.{windowAt}
 use Rattle.window.proofs.Sweep.{IsWorst, IsLate, sweep-is}
 use Rattle.rows.specs.Flat.{flatSteady, flatRequest}
+use Rattle.base.specs.Sums.{sum}
+use Rattle.base.proofs.Sums.{sum-zero}
+use Rattle.window.proofs.Steady.{jobs-none}
+
+-- at the request itself no new task counts
+none-yet : (T C Y : ℕ) → after 0 T C Y ≡ 0
+unfolding after
+none-yet T C Y = let z : 0 - Y ≡ 0 = omega arith in rw z (jobs-none T C)
+
+nothing-new : (w : List ℕ) (k : ℕ) → newSum w k 0 ≡ 0
+unfolding shareOf
+nothing-new w k = sum-zero k (shareOf (after 0) w) (λ j h. none-yet (getD w (4 * j + 1) 0) (getD w (4 * j + 2) 0) (getD w (4 * j + 3) 0))
+
+-- so the window at the last phase is that of the old terms alone
+pub last-steady : (o : List ℕ) (n : ℕ) (w : List ℕ) (k c limit : ℕ) → windowAt (flatDemand o n w k c) limit limit ≡ flatSteady o n c limit
+unfolding windowAt flatSteady flatDemand sum
+last-steady o n w k c limit =
+    window-same (flatDemand o n w k c limit) (flatDemand o n o 0 c limit) limit
+    (λ u h. let z : u - limit ≡ 0 = omega arith in rw z (omega (arith, nothing-new w k)))
 
 pub ready-none : (l : List ℕ) (n : ℕ) → Ready l n → Ready l 0
 ready-none l n r = record { room = r .room; few = omega arith; good = λ j h. absurd (omega arith) }

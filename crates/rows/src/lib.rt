@@ -98,11 +98,14 @@ fn completed_row<'a>(old: &'a [u64], n: usize, new: &'a [u64], k: usize, c: u64,
     requires { ⌜ Ready (now old) n × Ready (now new) k × (1 ≤ c) × (c ≤ d) × (d < 65536) ⌝ }
     ensures { λ r. ⌜ r ≡ completedRow (sweep (windowAt (flatDemand (now (old .entry)) n (now (new .entry)) k c) d) d) (flatSteady (now (old .entry)) n c d) ⌝ }
 {
-    match window::over_phases(old, n, new, k, c, d) {
+    let found = window::over_phases(old, n, new, k, c, d);
+    let swept = found.swept;
+    match swept {
         Swept::Over(s) => {
             let w = s.window;
             let x = s.phase;
-            match steady(old, n, c, d) {
+            let last = found.last;
+            match last {
                 Closing::At(t) => timely(w, x, t),
                 Closing::Late => timely(w, x, 0),
             }
@@ -164,7 +167,7 @@ fn aborted(before: &mut [u64], olds: &[u64], n: usize, i: Task) -> Judged
     requires { ⌜ (1 ≤ i .execution) × (i .execution ≤ i .deadline) × (i .kind ≡ 1) ⌝ }
     ensures { λ r. ⌜ (length (now (before .exit)) ≡ 120) × ((w : List ℕ) (k : ℕ) → RowFrom (now (olds .entry)) n w k i r) ⌝ }
 {
-    let a = above::gather(before, olds, n, above::rank_of(i), 3);
+    let a = above::gather(before, olds, n, above::rank_of(i), 4);
     aborted_row(before, a, wide(i.execution), wide(i.deadline))
 }
 

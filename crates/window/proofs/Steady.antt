@@ -110,7 +110,7 @@ module _ (n C : ℕ) (f g : ℕ → ℕ → ℕ) (some : 1 ≤ C)
 
 -- ---- the theorem
 
-jobs-none : (T C : ℕ) → jobsIn T C 0 ≡ 0
+pub jobs-none : (T C : ℕ) → jobsIn T C 0 ≡ 0
 unfolding jobsIn ceil
 jobs-none zero C = zero-mul C
 jobs-none (suc T) C = rw (ceil-zero (suc T) (omega arith)) (zero-mul C)

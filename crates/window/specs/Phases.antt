@@ -7,6 +7,7 @@ use Rattle.base.specs.Search.{windowOf}
 use Rattle.window.specs.declared.Closing.{Closing}
 use Rattle.window.specs.declared.Closing.the-variants.{At, Late}
 use Rattle.window.specs.declared.Swept.the-variants.{Over}
+use Rattle.window.specs.declared.Course.{Course}
 use Rattle.window.specs.declared.State.{State}
 use Rattle.window.specs.declared.Step.{Step}
 use Rattle.window.specs.declared.Step.the-variants.{Go, Stop}
@@ -20,6 +21,10 @@ closingOf none = Late
 -- the window of a family of demands at a phase
 unfoldable pub windowAt : (ℕ → ℕ → ℕ) → ℕ → ℕ → Option ℕ
 windowAt f limit x = windowOf (f x) limit
+
+-- what all phases up to the limit give, and the window at the last one
+unfoldable pub courseOf : (ℕ → Option ℕ) → ℕ → Course
+courseOf g limit = record { swept = sweep g limit; last = closingOf (g limit) }
 
 -- a search at x, where the demand at the request is a, starts at r: where the state says, or as far behind x as the last window
 abbrev pub Begun : State → ℕ → ℕ → ℕ → ℕ → Type 0

@@ -5,7 +5,7 @@ ghost use Rattle.base.specs.Search.{windowOf};
 ghost use Rattle.base.proofs.Search.{Climbs};
 ghost use Rattle.term.specs.Terms.{Ready, flatDemand};
 ghost use Rattle.window.specs.Worst.{takeOf, sweep};
-ghost use Rattle.window.specs.Phases.{closingOf, windowAt, Begun, Kept, Stepped};
+ghost use Rattle.window.specs.Phases.{closingOf, windowAt, courseOf, Begun, Kept, Stepped};
 ghost use Rattle.window.specs.Behind.{Bar, Held, Turned, Tells};
 ghost use mathlib.Core.Option.{some};
 ghost use mathlib.Core.Bool.{cond};
@@ -27,6 +27,12 @@ pub struct Worst {
 pub enum Swept {
     Over(Worst),
     LateAt(u64),
+}
+
+// What all phases gave, and the window at the last one.
+pub struct Course {
+    pub swept: Swept,
+    pub last: Closing,
 }
 
 // Between phases: the worst so far, where searches may start, and a time at which the phase just seen closes; then the last
@@ -314,16 +320,22 @@ fn backwards<'a>(
     Tried::Found(worst)
 }
 
-// Backwards, where the windows at the limit and at 1 close.
-fn try_back<'a>(old: &'a [u64], n: usize, new: &'a [u64], k: usize, c: u64, limit: u64) -> Tried
+// Backwards, where the window at 1 closes as well.
+fn try_back<'a>(
+    old: &'a [u64],
+    n: usize,
+    new: &'a [u64],
+    k: usize,
+    c: u64,
+    limit: u64,
+    settled: u64,
+) -> Tried
     requires { ⌜ Ready (now old) n × Ready (now new) k × (1 ≤ c) × (c ≤ limit) × (limit < 65536) ⌝ }
+    requires { ⌜ windowAt (flatDemand (now old) n (now new) k c) limit limit ≡ some settled ⌝ }
     ensures { λ r. ⌜ Tells (windowAt (flatDemand (now (old .entry)) n (now (new .entry)) k c) limit) limit r ⌝ }
 {
-    match search(old, n, new, k, c, limit, c, limit) {
-        Closing::At(settled) => match search(old, n, new, k, c, 1, c, limit) {
-            Closing::At(first) => backwards(old, n, new, k, c, limit, settled, first),
-            Closing::Late => Tried::Lost,
-        },
+    match search(old, n, new, k, c, 1, c, limit) {
+        Closing::At(first) => backwards(old, n, new, k, c, limit, settled, first),
         Closing::Late => Tried::Lost,
     }
 }
@@ -365,7 +377,7 @@ fn forwards<'a>(old: &'a [u64], n: usize, new: &'a [u64], k: usize, c: u64, limi
     Swept::Over(worst)
 }
 
-// The worst window over all phases from 1 to the limit with its smallest phase, or the first late phase.
+// The worst window over all phases from 1 to the limit with its smallest phase, or the first late phase; and the window at the limit.
 pub fn over_phases<'a>(
     old: &'a [u64],
     n: usize,
@@ -373,12 +385,25 @@ pub fn over_phases<'a>(
     k: usize,
     c: u64,
     limit: u64,
-) -> Swept
+) -> Course
     requires { ⌜ Ready (now old) n × Ready (now new) k × (1 ≤ c) × (c ≤ limit) × (limit < 65536) ⌝ }
-    ensures { λ r. ⌜ r ≡ sweep (windowAt (flatDemand (now (old .entry)) n (now (new .entry)) k c) limit) limit ⌝ }
+    ensures { λ r. ⌜ r ≡ courseOf (windowAt (flatDemand (now (old .entry)) n (now (new .entry)) k c) limit) limit ⌝ }
 {
-    match try_back(old, n, new, k, c, limit) {
-        Tried::Found(w) => Swept::Over(w),
-        Tried::Lost => forwards(old, n, new, k, c, limit),
+    let last = search(old, n, new, k, c, limit, c, limit);
+    match last {
+        Closing::At(settled) => match try_back(old, n, new, k, c, limit, settled) {
+            Tried::Found(w) => Course {
+                swept: Swept::Over(w),
+                last,
+            },
+            Tried::Lost => Course {
+                swept: forwards(old, n, new, k, c, limit),
+                last,
+            },
+        },
+        Closing::Late => Course {
+            swept: forwards(old, n, new, k, c, limit),
+            last,
+        },
     }
 }

@@ -1,30 +1,41 @@
 use borrow.Author.Needs.{needs}
 use native.Mathlib.Omega.{arith}
-use mathlib.Core.Path.{sym, _∙_}
+use Prim.Native.Nat.{ℕ}
+use mathlib.Core.Path.{_≡_, sym, ap, _∙_}
+use mathlib.Core.Option.{Option}
 use Rattle.term.specs.Terms.{flatDemand}
+use Rattle.window.specs.declared.Course.{Course}
+use Rattle.window.specs.Worst.{sweep}
+use Rattle.window.specs.Phases.{closingOf, courseOf}
 use Rattle.window.proofs.Phases.{closing-at, closing-late}
-use Rattle.rows.proofs.Windows.{steady-within, worst-within, late-within}
+use Rattle.rows.proofs.Windows.{last-steady, steady-within, worst-within, late-within}
 use Rattle.rows.proofs.completed_row.Statement.{statement}
 use Rattle.rows.proofs.completed_row.Tie as tie
+
+module _ (r : Course) (g : ℕ → Option ℕ) (d : ℕ) (e : r ≡ courseOf g d) where
+  swept-is : sweep g d ≡ r .swept
+  unfolding courseOf
+  swept-is = sym (ap (λ (c : Course). c .swept) e)
+
+  last-is : closingOf (g d) ≡ r .last
+  unfolding courseOf
+  last-is = sym (ap (λ (c : Course). c .last) e)
 
 over-phases-requires : tie.Need-over-phases-requires
 over-phases-requires c κs = search needs
 
-enum-known-s : tie.Need-enum-known-s
-enum-known-s c = search needs
+enum-known-swept : tie.Need-enum-known-swept
+enum-known-swept c = search needs
 
-steady-requires : tie.Need-steady-requires
-steady-requires c κs = search needs
-
-enum-known-t : tie.Need-enum-known-t
-enum-known-t c = search needs
+enum-known-last : tie.Need-enum-known-last
+enum-known-last c = search needs
 
 timely-requires : tie.Need-timely-requires
 timely-requires c κs =
-    let a = c .before .before .before .before .before .before .before .before .before .before .args in
-    let e = closing-at _ _ (sym (c .before .before .before .steady .ensures) ∙ c .before .t .given .1) in
+    let a = c .before .before .before .before .before .before .before .before .before .args in
+    let e = sym (last-steady (a .old .now) (a .n) (a .new .now) (a .k) (a .c) (a .d)) ∙ closing-at _ _ (last-is _ _ _ (c .before .before .before .before .before .before .over-phases .ensures) ∙ c .before .last .given .1) in
     let l = steady-within (a .old .now) (a .n) (a .c) (a .d) _ e in
-    let i = sym (c .before .before .before .before .before .before .before .over-phases .ensures) ∙ c .before .before .before .before .before .s .given .1 in
+    let i = swept-is _ _ _ (c .before .before .before .before .before .before .over-phases .ensures) ∙ c .before .before .before .before .swept .given .1 in
     let w = worst-within (flatDemand (a .old .now) (a .n) (a .new .now) (a .k) (a .c)) (a .d) (omega arith) _ i in
     (omega arith, omega arith, omega arith)
 
@@ -33,36 +44,38 @@ enum-told c = search needs
 
 timely-requires-2 : tie.Need-timely-requires-2
 timely-requires-2 c κs =
-    let a = c .before .before .before .before .before .before .before .before .before .args in
-    let i = sym (c .before .before .before .before .before .before .over-phases .ensures) ∙ c .before .before .before .before .s .given .1 in
+    let a = c .before .before .before .before .before .before .before .before .args in
+    let i = swept-is _ _ _ (c .before .before .before .before .before .over-phases .ensures) ∙ c .before .before .before .swept .given .1 in
     let w = worst-within (flatDemand (a .old .now) (a .n) (a .new .now) (a .k) (a .c)) (a .d) (omega arith) _ i in
     (omega arith, omega arith, omega arith)
 
-enum-known-x : tie.Need-enum-known-x
-enum-known-x c = search needs
+enum-known-swept-2 : tie.Need-enum-known-swept-2
+enum-known-swept-2 c = search needs
 
 narrow-requires : tie.Need-narrow-requires
 narrow-requires c κs =
     let a = c .before .before .before .before .before .before .args in
-    let i = sym (c .before .before .before .over-phases .ensures) ∙ c .before .x .given .1 in
+    let i = swept-is _ _ _ (c .before .before .before .over-phases .ensures) ∙ c .before .swept2 .given .1 in
     let w = late-within (flatDemand (a .old .now) (a .n) (a .new .now) (a .k) (a .c)) (a .d) (omega arith) _ i in
     omega arith
 
 returns : tie.Need-returns
 returns c =
-    let e = closing-at _ _ (sym (c .before .before .before .before .steady .ensures) ∙ c .before .before .t .given .1) in
-    let i = sym (c .before .before .before .before .before .before .before .before .over-phases .ensures) ∙ c .before .before .before .before .before .before .s .given .1 in
+    let a = c .before .before .before .before .before .before .before .before .before .before .args in
+    let e = sym (last-steady (a .old .now) (a .n) (a .new .now) (a .k) (a .c) (a .d)) ∙ closing-at _ _ (last-is _ _ _ (c .before .before .before .before .before .before .before .over-phases .ensures) ∙ c .before .before .last .given .1) in
+    let i = swept-is _ _ _ (c .before .before .before .before .before .before .before .over-phases .ensures) ∙ c .before .before .before .before .before .swept .given .1 in
     rw (i, e) (c .timely .ensures)
 
 returns-2 : tie.Need-returns-2
 returns-2 c =
-    let e = closing-late _ (sym (c .before .before .before .steady .ensures) ∙ c .before .enum-told .given .1) in
-    let i = sym (c .before .before .before .before .before .before .before .over-phases .ensures) ∙ c .before .before .before .before .before .s .given .1 in
+    let a = c .before .before .before .before .before .before .before .before .before .args in
+    let e = sym (last-steady (a .old .now) (a .n) (a .new .now) (a .k) (a .c) (a .d)) ∙ closing-late _ (last-is _ _ _ (c .before .before .before .before .before .before .over-phases .ensures) ∙ c .before .enum-told .given .1) in
+    let i = swept-is _ _ _ (c .before .before .before .before .before .before .over-phases .ensures) ∙ c .before .before .before .before .swept .given .1 in
     rw (i, e) (c .timely2 .ensures)
 
 returns-3 : tie.Need-returns-3
 returns-3 c =
-    let i = sym (c .before .before .before .before .over-phases .ensures) ∙ c .before .before .x .given .1 in
+    let i = swept-is _ _ _ (c .before .before .before .before .over-phases .ensures) ∙ c .before .before .swept2 .given .1 in
     rw (i, c .narrow .ensures)
 
 pub completed-row-spec : {M : Type 1} → statement M
@@ -70,13 +83,12 @@ completed-row-spec =
     tie.close
     (tie.spec
     over-phases-requires
-    enum-known-s
-    steady-requires
-    enum-known-t
+    enum-known-swept
+    enum-known-last
     timely-requires
     enum-told
     timely-requires-2
-    enum-known-x
+    enum-known-swept-2
     narrow-requires
     returns
     returns-2

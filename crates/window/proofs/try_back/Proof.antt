@@ -12,16 +12,7 @@ use Rattle.window.proofs.try_back.Tie as tie
 search-requires : tie.Need-search-requires
 search-requires c κs =
     let a = c .before .before .args in
-    let q = c .before .before .pre in
-    ((q .0, q .1, omega arith, omega arith), climb-start _ (a .limit) (a .c) (q .2) (q .3) (flat-least (a .old .now) (a .n) (a .new .now) (a .k) (a .c) (a .limit)))
-
-enum-known-settled : tie.Need-enum-known-settled
-enum-known-settled c = search needs
-
-search-requires-2 : tie.Need-search-requires-2
-search-requires-2 c κs =
-    let a = c .before .before .before .before .before .before .args in
-    let q = c .before .before .before .before .before .before .pre in
+    let q = c .before .before .pre .0 in
     ((q .0, q .1, omega arith, omega arith), climb-start _ (a .limit) (a .c) (q .2) (q .3) (flat-least (a .old .now) (a .n) (a .new .now) (a .k) (a .c) 1))
 
 enum-known-first : tie.Need-enum-known-first
@@ -30,16 +21,11 @@ enum-known-first c = search needs
 backwards-requires : tie.Need-backwards-requires
 unfolding windowAt
 backwards-requires c κs =
-    let q = c .before .before .before .before .before .before .before .before .before .before .pre in
-    let e = closing-at _ _ (sym (c .before .before .before .before .before .before .before .search .ensures) ∙ c .before .before .before .before .before .settled .given .1) in
-    let g = closing-at _ _ (sym (c .before .before .before .search2 .ensures) ∙ c .before .first .given .1) in
-    ((q .0, q .1, q .2, q .3, q .4), (e, g))
+    let q = c .before .before .before .before .before .before .pre in
+    (q .0, (q .1, closing-at _ _ (sym (c .before .before .before .search .ensures) ∙ c .before .first .given .1)))
 
 enum-told : tie.Need-enum-told
 enum-told c = search needs
-
-enum-told-2 : tie.Need-enum-told-2
-enum-told-2 c = search needs
 
 returns : tie.Need-returns
 returns c = search needs
@@ -48,21 +34,7 @@ returns-2 : tie.Need-returns-2
 unfolding Tells
 returns-2 c = search needs
 
-returns-3 : tie.Need-returns-3
-unfolding Tells
-returns-3 c = search needs
-
 pub try-back-spec : {M : Type 1} → statement M
 try-back-spec =
     tie.close
-    (tie.spec
-    search-requires
-    enum-known-settled
-    search-requires-2
-    enum-known-first
-    backwards-requires
-    enum-told
-    enum-told-2
-    returns
-    returns-2
-    returns-3)
+    (tie.spec search-requires enum-known-first backwards-requires enum-told returns returns-2)
