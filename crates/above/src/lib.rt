@@ -9,12 +9,6 @@ ghost use Rattle.above.specs.Roll.{one, Periodic, Rolled, entered, rollO
 use block::Table;
 use block::Task;
 
-fn wide(x: u16) -> u64
-    ensures { λ r. ⌜ (r ≡ x) × (r < 65536) ⌝ }
-{
-    x as u64
-}
-
 fn byte(x: u8) -> u64
     ensures { λ r. ⌜ (r ≡ x) × (r < 256) ⌝ }
 {
@@ -42,12 +36,12 @@ fn enter(nums: &mut [u64], at: usize, x: Task)
     requires { ⌜ (at + 5 < length (now nums)) × (1 ≤ x .period) ⌝ }
     ensures { λ _. ⌜ (now (nums .exit) ≡ entered (now (nums .entry)) at x) × (x .period < 65536) × (x .execution < 65536) ⌝ }
 {
-    let p = wide(x.period);
+    let p = base::wider(x.period);
     nums[at] = (1099511627776 + (p - 1)) / p;
     nums[at + 1] = p;
-    nums[at + 2] = wide(x.execution);
+    nums[at + 2] = base::wider(x.execution);
     nums[at + 3] = mark_of(x.kind);
-    nums[at + 4] = wide(x.offset);
+    nums[at + 4] = base::wider(x.offset);
     nums[at + 5] = rank_of(x);
 }
 

@@ -17,12 +17,6 @@ const MOST_NUMBERS: usize = 180;
 
 pub const MOST_TEXT: usize = 2479;
 
-fn wide(x: u16) -> u32
-    ensures { λ r. ⌜ (r ≡ x) × (r < 65536) ⌝ }
-{
-    x as u32
-}
-
 fn letter_of(x: Task) -> u8
     ensures { λ r. ⌜ r ≡ letterOf x ⌝ }
 {
@@ -41,7 +35,7 @@ fn put_task(text: &mut [u8], at: usize, x: Task, first: u32, second: u32, third:
     ensures { λ _. ⌜ now (text .exit) ≡ put (now (text .entry)) at (taskLine x first second third) ⌝ }
 {
     let letter = [letter_of(x)];
-    let numbers = [wide(x.number), first, second, third];
+    let numbers = [base::whole(x.number), first, second, third];
     lines::put_line(text, at, &letter, &numbers)
 }
 
@@ -68,7 +62,7 @@ fn put_done(text: &mut [u8], a: u16, b: u16, olds: Table, news: Table, report: &
     ensures { λ r. ⌜ (r ≡ length (doneLines a b (tasksOf olds) (tasksOf news) (now (report .entry)))) × (r ≤ mostText) ⌝ }
     ensures { λ _. ⌜ now (text .exit) ≡ put (now (text .entry)) 0 (doneLines a b (tasksOf olds) (tasksOf news) (now (report .entry))) ⌝ }
 {
-    let modes = [wide(a), wide(b)];
+    let modes = [base::whole(a), base::whole(b)];
     let n = olds.count;
     let first = lines::put_line(text, 0, b"change", &modes);
     let middle = put_tasks(text, first, olds, 0, report);

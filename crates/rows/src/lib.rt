@@ -39,29 +39,11 @@ pub struct Rows {
     pub numbers: [u32; 180],
 }
 
-fn wide(x: u16) -> u64
-    ensures { λ r. ⌜ (r ≡ x) × (r < 65536) ⌝ }
-{
-    x as u64
-}
-
 fn narrow(x: u64) -> u32
     requires { ⌜ x < 4294967296 ⌝ }
     ensures { λ r. ⌜ r ≡ x ⌝ }
 {
     x as u32
-}
-
-fn larger(a: u64, b: u64) -> u64
-    ensures { λ r. ⌜ r ≡ max a b ⌝ }
-{
-    if a < b { b } else { a }
-}
-
-fn less(a: u64, b: u64) -> u64
-    ensures { λ r. ⌜ r ≡ a - b ⌝ }
-{
-    if a < b { 0 } else { a - b }
 }
 
 // The window of the terms alone, up to d.
@@ -129,12 +111,12 @@ fn new_row<'a>(own: &'a [u64], n: usize, new: &'a [u64], k: usize, left: u64, i:
     requires { ⌜ Ready (now own) n × Ready (now new) k × (left ≤ 1966050) × (1 ≤ i .execution) × (i .execution ≤ i .deadline) ⌝ }
     ensures { λ r. ⌜ r ≡ newRow i (flatSteady (now (own .entry)) n (i .execution) (i .deadline)) (flatRequest (now (new .entry)) k (i .execution + left) (i .offset + i .deadline)) ⌝ }
 {
-    let c = wide(i.execution);
-    let d = wide(i.deadline);
-    let y = wide(i.offset);
+    let c = base::wider(i.execution);
+    let d = base::wider(i.deadline);
+    let y = base::wider(i.offset);
     match steady(own, n, c, d) {
         Closing::At(s) => match request(new, k, c + left, y + d) {
-            Closing::At(w) => timely(larger(s, less(w, y)), w, s),
+            Closing::At(w) => timely(term::larger(s, term::less(w, y)), w, s),
             Closing::Late => Judged::Late(1),
         },
         Closing::Late => Judged::Late(0),
@@ -158,7 +140,14 @@ fn completed(
     let p = above::rank_of(i);
     let a = above::gather(before, olds, n, p, 3);
     let b = above::gather(after, news, k, p, 4);
-    completed_row(before, a, after, b, wide(i.execution), wide(i.deadline))
+    completed_row(
+        before,
+        a,
+        after,
+        b,
+        base::wider(i.execution),
+        base::wider(i.deadline),
+    )
 }
 
 // The row of an aborted task i.
@@ -168,7 +157,7 @@ fn aborted(before: &mut [u64], olds: &[u64], n: usize, i: Task) -> Judged
     ensures { λ r. ⌜ (length (now (before .exit)) ≡ 120) × ((w : List ℕ) (k : ℕ) → RowFrom (now (olds .entry)) n w k i r) ⌝ }
 {
     let a = above::gather(before, olds, n, above::rank_of(i), 4);
-    aborted_row(before, a, wide(i.execution), wide(i.deadline))
+    aborted_row(before, a, base::wider(i.execution), base::wider(i.deadline))
 }
 
 // The row of a new task i.

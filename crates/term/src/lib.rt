@@ -5,13 +5,20 @@ ghost use Rattle.base.specs.Numbers.{jobsIn, cutIn};
 ghost use Rattle.base.proofs.Recip.{recipOf};
 ghost use Rattle.term.specs.Terms.{Good, Ready, before, oldSum, newSum, flatDemand, growsBy, nextOf, nextPhase, prevOf, prevPhase};
 
-fn least(a: u64, b: u64) -> u64
+pub fn least(a: u64, b: u64) -> u64
     ensures { λ r. ⌜ r ≡ min a b ⌝ }
 {
     if a < b { a } else { b }
 }
 
-fn less(a: u64, b: u64) -> u64
+pub fn larger(a: u64, b: u64) -> u64
+    ensures { λ r. ⌜ r ≡ max a b ⌝ }
+{
+    if a < b { b } else { a }
+}
+
+// a - b, or 0 where b is more.
+pub fn less(a: u64, b: u64) -> u64
     ensures { λ r. ⌜ r ≡ a - b ⌝ }
 {
     if a < b { 0 } else { a - b }
@@ -128,12 +135,6 @@ pub fn next_phase(terms: &[u64], n: usize, x: u64, limit: u64) -> u64
         j += 1;
     }
     next
-}
-
-fn larger(a: u64, b: u64) -> u64
-    ensures { λ r. ⌜ r ≡ max a b ⌝ }
-{
-    if a < b { b } else { a }
 }
 
 // The last phase up to m + 1 at which one old term grows.

@@ -119,27 +119,9 @@ fn start_after(start: u64, t: u64, x: u64) -> u64
     ensures { λ r. ⌜ r ≡ max start (min t (x + 1)) ⌝ }
 {
     if t < x + 1 {
-        return larger(start, t);
+        return term::larger(start, t);
     }
-    larger(start, x + 1)
-}
-
-fn larger(a: u64, b: u64) -> u64
-    ensures { λ r. ⌜ r ≡ max a b ⌝ }
-{
-    if a < b { b } else { a }
-}
-
-fn least(a: u64, b: u64) -> u64
-    ensures { λ r. ⌜ r ≡ min a b ⌝ }
-{
-    if a < b { a } else { b }
-}
-
-fn less(a: u64, b: u64) -> u64
-    ensures { λ r. ⌜ r ≡ a - b ⌝ }
-{
-    if a < b { 0 } else { a - b }
+    term::larger(start, x + 1)
 }
 
 // Where the search at x may start: as far behind the request as the last window, if the old tasks have since asked for all
@@ -162,7 +144,7 @@ fn start_at(s: State, x: u64, a: u64, limit: u64) -> u64
     if a - s.base < gone {
         return start;
     }
-    larger(start, least(s.reach + gone, limit))
+    term::larger(start, term::least(s.reach + gone, limit))
 }
 
 // One phase: it brings nothing where it closes at the worst so far, else its window is searched for.
@@ -261,7 +243,7 @@ fn look<'a>(
     }
     let a = term::demand(old, n, new, k, c, x, x);
     let gone = s.phase - x;
-    if gone <= less(s.base, a) {
+    if gone <= term::less(s.base, a) {
         return Turn::On(s);
     }
     match search(old, n, new, k, c, x, s.reach - gone, limit) {

@@ -8,8 +8,8 @@ use Rattle.above.specs.Roll.{entered}
 use Rattle.above.proofs.enter.Statement.{statement}
 use Rattle.above.proofs.enter.Tie as tie
 
-wide-requires : tie.Need-wide-requires
-wide-requires c κs = search needs
+wider-requires : tie.Need-wider-requires
+wider-requires c κs = search needs
 
 sub-nums : tie.Need-sub-nums
 sub-nums c = search needs
@@ -36,8 +36,8 @@ slice-write-nums-2 : tie.Need-slice-write-nums-2
 slice-write-nums-2 c =
     simp length-set (omega arith)
 
-wide-requires-2 : tie.Need-wide-requires-2
-wide-requires-2 c κs = search needs
+wider-requires-2 : tie.Need-wider-requires-2
+wider-requires-2 c κs = search needs
 
 add-nums-3 : tie.Need-add-nums-3
 add-nums-3 c = search needs
@@ -62,8 +62,8 @@ slice-write-nums-4 : tie.Need-slice-write-nums-4
 slice-write-nums-4 c =
     simp length-set (omega arith)
 
-wide-requires-3 : tie.Need-wide-requires-3
-wide-requires-3 c κs = search needs
+wider-requires-3 : tie.Need-wider-requires-3
+wider-requires-3 c κs = search needs
 
 add-nums-5 : tie.Need-add-nums-5
 add-nums-5 c = search needs
@@ -100,13 +100,13 @@ returns c =
     let e3 : a + 3 ≡ suc (suc (suc a)) = omega arith in
     let e4 : a + 4 ≡ suc (suc (suc (suc a))) = omega arith in
     let e5 : a + 5 ≡ suc (suc (suc (suc (suc a)))) = omega arith in
-    (rw (c .before .before .before .before .wide .ensures .0, c .before .before .before .wide2 .ensures .0, c .before .before .mark-of .ensures, c .before .wide3 .ensures .0, c .rank-of .ensures, e1, e2, e3, e4, e5), omega (arith, c .before .before .before .before .wide .ensures), omega (arith, c .before .before .before .wide2 .ensures))
+    (rw (c .before .before .before .before .wider .ensures .0, c .before .before .before .wider2 .ensures .0, c .before .before .mark-of .ensures, c .before .wider3 .ensures .0, c .rank-of .ensures, e1, e2, e3, e4, e5), omega (arith, c .before .before .before .before .wider .ensures), omega (arith, c .before .before .before .wider2 .ensures))
 
 pub enter-spec : {M : Type 1} → statement M
 enter-spec =
     tie.close
     (tie.spec
-    wide-requires
+    wider-requires
     sub-nums
     add-nums
     div-nums
@@ -115,7 +115,7 @@ enter-spec =
     add-nums-2
     mul-nums-2
     slice-write-nums-2
-    wide-requires-2
+    wider-requires-2
     add-nums-3
     mul-nums-3
     slice-write-nums-3
@@ -123,7 +123,7 @@ enter-spec =
     add-nums-4
     mul-nums-4
     slice-write-nums-4
-    wide-requires-3
+    wider-requires-3
     add-nums-5
     mul-nums-5
     slice-write-nums-5

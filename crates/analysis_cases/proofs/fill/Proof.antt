@@ -4,9 +4,6 @@ use lib.ListN.{length}
 use borrow.Author.Needs.{needs}
 use Rattle.analysis_cases.proofs.fill.Statement.{statement}
 use Rattle.analysis_cases.proofs.fill.Tie as tie
-use Rattle.analysis_cases.proofs.fill.Reads as reads
-use Rattle.analysis_cases.proofs.fill.Lts as lts
-use Rattle.analysis_cases.proofs.untouched.Reads as untouched-reads
 
 abbrev Inv-loop : tie.InvT-loop
 Inv-loop report₀ i₀ i-end report i = (i ≤ i-end) × (i-end ≡ length report) × (length report ≤ 200)

@@ -4,9 +4,6 @@ use lib.ListN.{length}
 use borrow.Author.Needs.{needs}
 use Rattle.analysis_cases.proofs.is_kept.Statement.{statement}
 use Rattle.analysis_cases.proofs.is_kept.Tie as tie
-use Rattle.analysis_cases.proofs.is_kept.Reads as reads
-use Rattle.analysis_cases.proofs.is_kept.Lts as lts
-use Rattle.analysis_cases.proofs.untouched.Reads as untouched-reads
 
 abbrev Inv-loop : tie.InvT-loop
 Inv-loop report i₀ i-end i = (i ≤ i-end) × (i-end ≡ length report)

@@ -2,9 +2,6 @@ use Prim.Native.Nat.{_≤_, _<_, _-_}
 use borrow.Author.Needs.{needs}
 use Rattle.analysis_cases.proofs.mend.Statement.{statement}
 use Rattle.analysis_cases.proofs.mend.Tie as tie
-use Rattle.analysis_cases.proofs.mend.Reads as reads
-use Rattle.analysis_cases.proofs.mend.Lts as lts
-use Rattle.analysis_cases.proofs.word.Reads as word-reads
 
 abbrev Inv-loop : tie.InvT-loop
 Inv-loop block sum₀ k₀ sum k = (k ≤ 127) × (sum < 4294967296)

@@ -4,9 +4,6 @@ use lib.ListN.{length}
 use borrow.Author.Needs.{needs}
 use Rattle.analysis_cases.proofs.print_all.Statement.{statement}
 use Rattle.analysis_cases.proofs.print_all.Tie as tie
-use Rattle.analysis_cases.proofs.print_all.Reads as reads
-use Rattle.analysis_cases.proofs.print_all.Lts as lts
-use Rattle.analysis_cases.proofs.number.Reads as number-reads
 
 abbrev Inv-loop : tie.InvT-loop
 Inv-loop numbers i₀ i-end i = (i ≤ i-end) × (i-end ≡ length numbers)

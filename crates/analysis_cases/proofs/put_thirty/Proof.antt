@@ -4,9 +4,6 @@ use lib.ListN.{length}
 use borrow.Author.Needs.{needs}
 use Rattle.analysis_cases.proofs.put_thirty.Statement.{statement}
 use Rattle.analysis_cases.proofs.put_thirty.Tie as tie
-use Rattle.analysis_cases.proofs.put_thirty.Reads as reads
-use Rattle.analysis_cases.proofs.put_thirty.Lts as lts
-use Rattle.base.proofs.copy_numbers.Reads as copy-numbers-reads
 
 abbrev Inv-loop : tie.InvT-loop
 Inv-loop list₀ kind k₀ list k = (k ≤ 30) × (length list ≡ 210)

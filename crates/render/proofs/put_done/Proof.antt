@@ -11,11 +11,11 @@ use native.Mathlib.Omega.{arith}
 use Rattle.render.proofs.put_done.Statement.{statement}
 use Rattle.render.proofs.put_done.Tie as tie
 
-wide-requires : tie.Need-wide-requires
-wide-requires c κs = search needs
+whole-requires : tie.Need-whole-requires
+whole-requires c κs = search needs
 
-wide-requires-2 : tie.Need-wide-requires-2
-wide-requires-2 c κs = search needs
+whole-requires-2 : tie.Need-whole-requires-2
+whole-requires-2 c κs = search needs
 
 -- where the first line is written
 change-at : (c : tie.After-put-line) → (c .put-line .result ≡ 0 + length (changeLine (c .before .before .before .before .before .before .before .before .args .a) (c .before .before .before .before .before .before .before .before .args .b))) × (c .put-line .last .0 ≡ put (c .before .before .before .before .before .before .before .before .args .text .now) 0 (changeLine (c .before .before .before .before .before .before .before .before .args .a) (c .before .before .before .before .before .before .before .before .args .b))) × (length (changeLine (c .before .before .before .before .before .before .before .before .args .a) (c .before .before .before .before .before .before .before .before .args .b)) ≤ 19)
@@ -23,7 +23,7 @@ change-at c =
     let a = c .before .before .before .before .before .before .before .before .args in
     let s = changeLine (a .a) (a .b) in
     let p = c .put-line in
-    let q = change-line (a .a) (a .b) (c .before .before .before .before .before .wide .result) (c .before .before .before .before .wide2 .result) (c .before .before .before .before .before .wide .ensures .0) (c .before .before .before .before .wide2 .ensures .0) in
+    let q = change-line (a .a) (a .b) (c .before .before .before .before .before .whole .result) (c .before .before .before .before .whole2 .result) (c .before .before .before .before .before .whole .ensures) (c .before .before .before .before .whole2 .ensures) in
     let r = change-room (a .a) (a .b) (omega arith) (omega arith) in
     let h : 0 + length s ≤ length (a .text .now) = omega (arith, c .before .before .before .before .before .before .before .before .pre .2) in
     (p .ensures .0 ∙ ap (next (a .text .now) 0) q ∙ next-fits (a .text .now) 0 s h, p .ensures .1 ∙ ap (written (a .text .now) 0) q ∙ written-fits (a .text .now) 0 s h, r)
@@ -75,8 +75,8 @@ pub put-done-spec : {M : Type 1} → statement M
 put-done-spec =
     tie.close
     (tie.spec
-    wide-requires
-    wide-requires-2
+    whole-requires
+    whole-requires-2
     slice-aggregate-put-line
     slice-aggregate-put-line-2
     put-line-requires

@@ -14,8 +14,8 @@ use Rattle.render.proofs.put_task.Tie as tie
 letter-of-requires : tie.Need-letter-of-requires
 letter-of-requires c κs = search needs
 
-wide-requires : tie.Need-wide-requires
-wide-requires c κs = search needs
+whole-requires : tie.Need-whole-requires
+whole-requires c κs = search needs
 
 slice-aggregate-put-line : tie.Need-slice-aggregate-put-line
 slice-aggregate-put-line c = search needs
@@ -36,7 +36,7 @@ returns c =
     let s = taskLine (a .x) (a .first) (a .second) (a .third) in
     let r = task-room (a .x) (a .first) (a .second) (a .third) (omega arith) (omega arith) (omega arith) (omega arith) in
     let h : a .at + length s ≤ length (a .text .now) = omega (arith, c .before .before .before .before .before .before .before .before .before .pre) in
-    let q = task-line (a .x) (a .first) (a .second) (a .third) (c .before .before .before .before .before .before .before .letter-of .result) (c .before .before .before .before .before .before .wide .result) (c .before .before .before .before .before .before .before .letter-of .ensures) (c .before .before .before .before .before .before .wide .ensures .0) in
+    let q = task-line (a .x) (a .first) (a .second) (a .third) (c .before .before .before .before .before .before .before .letter-of .result) (c .before .before .before .before .before .before .whole .result) (c .before .before .before .before .before .before .before .letter-of .ensures) (c .before .before .before .before .before .before .whole .ensures) in
     let e : p .result ≡ a .at + length s = p .ensures .0 ∙ ap (next (a .text .now) (a .at)) q ∙ next-fits (a .text .now) (a .at) s h in
     ((e, omega arith), p .ensures .1 ∙ ap (written (a .text .now) (a .at)) q ∙ written-fits (a .text .now) (a .at) s h)
 
@@ -45,7 +45,7 @@ put-task-spec =
     tie.close
     (tie.spec
     letter-of-requires
-    wide-requires
+    whole-requires
     slice-aggregate-put-line
     slice-aggregate-put-line-2
     put-line-requires

@@ -13,18 +13,18 @@ rank-of-requires c κs = search needs
 gather-requires : tie.Need-gather-requires
 gather-requires c κs = search needs
 
-wide-requires : tie.Need-wide-requires
-wide-requires c κs = search needs
+wider-requires : tie.Need-wider-requires
+wider-requires c κs = search needs
 
-wide-requires-2 : tie.Need-wide-requires-2
-wide-requires-2 c κs = search needs
+wider-requires-2 : tie.Need-wider-requires-2
+wider-requires-2 c κs = search needs
 
 aborted-row-requires : tie.Need-aborted-row-requires
 aborted-row-requires c κs =
     let a = c .before .before .before .before .before .before .before .before .before .before .args in
     let g = c .before .before .before .before .before .gather .ensures in
     let q = c .before .before .before .before .before .before .before .before .before .before .pre in
-    (rw (g .0, g .1) (terms-ready (a .olds .now) _ 4 (a .before .now) (q .0 .1) (a .n) (q .0 .0)), omega (arith, c .before .wide .ensures), omega (arith, c .before .wide .ensures, c .wide2 .ensures), omega (arith, c .wide2 .ensures))
+    (rw (g .0, g .1) (terms-ready (a .olds .now) _ 4 (a .before .now) (q .0 .1) (a .n) (q .0 .0)), omega (arith, c .before .wider .ensures), omega (arith, c .before .wider .ensures, c .wider2 .ensures), omega (arith, c .wider2 .ensures))
 
 same-length : tie.Need-same-length
 same-length c = search needs
@@ -35,7 +35,7 @@ returns c =
     let g = c .before .before .before .before .before .before .gather .ensures in
     let q = c .before .before .before .before .before .before .before .before .before .before .before .pre in
     let len = ap length (g .0) ∙ (terms-length (a .olds .now) _ 4 (a .before .now) (a .n) ∙ q .0 .1) in
-    let r = rw (c .before .before .wide .ensures .0, c .before .wide2 .ensures .0, g .0, g .1, c .before .before .before .before .before .before .before .rank-of .ensures) at (c .aborted-row .ensures) in
+    let r = rw (c .before .before .wider .ensures .0, c .before .wider2 .ensures .0, g .0, g .1, c .before .before .before .before .before .before .before .rank-of .ensures) at (c .aborted-row .ensures) in
     (len, λ w k xs ys t u o e. r ∙ aborted-is (a .i) (q .1 .0) (a .olds .now) (a .n) xs t (q .0 .0) o (a .before .now) (q .0 .1) ys (q .1 .2))
 
 pub aborted-spec : {M : Type 1} → statement M
@@ -44,8 +44,8 @@ aborted-spec =
     (tie.spec
     rank-of-requires
     gather-requires
-    wide-requires
-    wide-requires-2
+    wider-requires
+    wider-requires-2
     aborted-row-requires
     same-length
     returns)

@@ -6,14 +6,14 @@ use Rattle.rows.proofs.Windows.{steady-within, request-within}
 use Rattle.rows.proofs.new_row.Statement.{statement}
 use Rattle.rows.proofs.new_row.Tie as tie
 
-wide-requires : tie.Need-wide-requires
-wide-requires c κs = search needs
+wider-requires : tie.Need-wider-requires
+wider-requires c κs = search needs
 
-wide-requires-2 : tie.Need-wide-requires-2
-wide-requires-2 c κs = search needs
+wider-requires-2 : tie.Need-wider-requires-2
+wider-requires-2 c κs = search needs
 
-wide-requires-3 : tie.Need-wide-requires-3
-wide-requires-3 c κs = search needs
+wider-requires-3 : tie.Need-wider-requires-3
+wider-requires-3 c κs = search needs
 
 steady-requires : tie.Need-steady-requires
 steady-requires c κs = search needs
@@ -56,28 +56,28 @@ enum-told-2 c = search needs
 
 returns : tie.Need-returns
 returns c =
-    let e = rw (c .before .before .before .before .before .before .before .before .before .before .before .before .before .wide .ensures .0, c .before .before .before .before .before .before .before .before .before .before .before .before .wide2 .ensures .0) at (closing-at _ _ (sym (c .before .before .before .before .before .before .before .before .before .before .steady .ensures) ∙ c .before .before .before .before .before .before .before .before .s .given .1)) in
-    let g = rw (c .before .before .before .before .before .before .before .before .before .before .before .before .before .wide .ensures .0, c .before .before .before .before .before .before .before .before .before .before .before .wide3 .ensures .0, c .before .before .before .before .before .before .before .before .before .before .before .before .wide2 .ensures .0) at (closing-at _ _ (sym (c .before .before .before .before .before .before .request .ensures) ∙ c .before .before .before .before .w .given .1)) in
-    rw (e, g, c .timely .ensures, c .before .larger .ensures, c .before .before .less .ensures, c .before .before .before .before .before .before .before .before .before .before .before .wide3 .ensures .0)
+    let e = rw (c .before .before .before .before .before .before .before .before .before .before .before .before .before .wider .ensures .0, c .before .before .before .before .before .before .before .before .before .before .before .before .wider2 .ensures .0) at (closing-at _ _ (sym (c .before .before .before .before .before .before .before .before .before .before .steady .ensures) ∙ c .before .before .before .before .before .before .before .before .s .given .1)) in
+    let g = rw (c .before .before .before .before .before .before .before .before .before .before .before .before .before .wider .ensures .0, c .before .before .before .before .before .before .before .before .before .before .before .wider3 .ensures .0, c .before .before .before .before .before .before .before .before .before .before .before .before .wider2 .ensures .0) at (closing-at _ _ (sym (c .before .before .before .before .before .before .request .ensures) ∙ c .before .before .before .before .w .given .1)) in
+    rw (e, g, c .timely .ensures, c .before .larger .ensures, c .before .before .less .ensures, c .before .before .before .before .before .before .before .before .before .before .before .wider3 .ensures .0)
 
 returns-2 : tie.Need-returns-2
 returns-2 c =
-    let e = rw (c .before .before .before .before .before .before .before .before .before .wide .ensures .0, c .before .before .before .before .before .before .before .before .wide2 .ensures .0) at (closing-at _ _ (sym (c .before .before .before .before .before .before .steady .ensures) ∙ c .before .before .before .before .s .given .1)) in
-    let g = rw (c .before .before .before .before .before .before .before .before .before .wide .ensures .0, c .before .before .before .before .before .before .before .wide3 .ensures .0, c .before .before .before .before .before .before .before .before .wide2 .ensures .0) at (closing-late _ (sym (c .before .before .request .ensures) ∙ c .enum-told .given .1)) in
+    let e = rw (c .before .before .before .before .before .before .before .before .before .wider .ensures .0, c .before .before .before .before .before .before .before .before .wider2 .ensures .0) at (closing-at _ _ (sym (c .before .before .before .before .before .before .steady .ensures) ∙ c .before .before .before .before .s .given .1)) in
+    let g = rw (c .before .before .before .before .before .before .before .before .before .wider .ensures .0, c .before .before .before .before .before .before .before .wider3 .ensures .0, c .before .before .before .before .before .before .before .before .wider2 .ensures .0) at (closing-late _ (sym (c .before .before .request .ensures) ∙ c .enum-told .given .1)) in
     rw (e, g)
 
 returns-3 : tie.Need-returns-3
 returns-3 c =
-    let e = rw (c .before .before .before .before .before .wide .ensures .0, c .before .before .before .before .wide2 .ensures .0) at (closing-late _ (sym (c .before .before .steady .ensures) ∙ c .enum-told2 .given .1)) in
+    let e = rw (c .before .before .before .before .before .wider .ensures .0, c .before .before .before .before .wider2 .ensures .0) at (closing-late _ (sym (c .before .before .steady .ensures) ∙ c .enum-told2 .given .1)) in
     rw e
 
 pub new-row-spec : {M : Type 1} → statement M
 new-row-spec =
     tie.close
     (tie.spec
-    wide-requires
-    wide-requires-2
-    wide-requires-3
+    wider-requires
+    wider-requires-2
+    wider-requires-3
     steady-requires
     enum-known-s
     add-request

@@ -2,13 +2,8 @@ use borrow.Author.Needs.{needs}
 use native.Mathlib.Omega.{arith}
 use mathlib.Core.Path.{refl}
 use mathlib.Core.Logic.{inl, inr}
-use borrow.Author.Needs.{needs}
 use Rattle.window.proofs.start_at.Statement.{statement}
 use Rattle.window.proofs.start_at.Tie as tie
-use Rattle.window.proofs.start_at.Reads as reads
-use Rattle.window.proofs.start_at.Lts as lts
-use Rattle.window.proofs.larger.Reads as larger-reads
-use Rattle.window.proofs.least.Reads as least-reads
 
 returns : tie.Need-returns
 returns c = inl refl
