@@ -1,32 +1,30 @@
 -- The ways out of the analysis: what each of its answers and reports is, from what the code knows there.
 use Prim.Native.Nat.{ℕ, _+_, _*_, _≤_, _<_}
 use mathlib.Core.Path.{_≡_, refl, sym, ap, subst, _∙_}
-use mathlib.Core.List.{List, _++_}
+use mathlib.Core.List.{List, [], _++_, flatMap}
 use native.Mathlib.Omega.{arith}
 use lib.ListN.{length, take, length-append, length-replicate}
 use lib.Seq.{take-at, length-take-le}
 use borrow.Author.Tests.{lt-ltb, le-ltb}
-use Rattle.base.specs.Lists.{over}
+use Rattle.base.specs.Lists.{over, upTo}
 use Rattle.base.proofs.Lists.{flat-length, over-front}
 use Rattle.block.specs.declared.Task.{Task}
 use Rattle.block.specs.declared.Table.{Table}
-use Rattle.block.specs.declared.Loaded.{Loaded}
 use Rattle.block.specs.declared.Answer.{Answer}
 use Rattle.block.specs.declared.Verdict.{Verdict}
 use Rattle.block.specs.declared.Verdict.the-variants.{Passed, Refused}
 use Rattle.block.specs.Format.{mostTasks}
 use Rattle.block.specs.Answers.{answer, done, firstOf}
-use Rattle.block.specs.Block.{Reading, holds, spoilt, readingOf, loaded, loadedOf}
+use Rattle.block.specs.Block.{countByte, modeNumber, tasksIn, holds, spoilt, blockVerdict, readingOf, tableOf}
 use Rattle.block.specs.Legal.{Legal}
 use Rattle.block.proofs.Tables.{table-tasks}
-use Rattle.block.proofs.Reading.{reading-legal}
+use Rattle.block.proofs.Reading.{block-legal}
 use Rattle.window.specs.Sound.{Sound, heldBy}
 use Rattle.rows.specs.declared.Judged.{Judged}
 use Rattle.rows.specs.declared.Judged.the-variants.{Timely, Late}
 use Rattle.rows.specs.Row.{rowOf}
 use Rattle.rows.specs.Rows.{rowSize, rowNumbers, rowsOf, lateChecks, rowsBy, rowsFound}
 use Rattle.pair.specs.Analysis.{Analysis, analysis, pairOf, analyseOf}
-use Rattle.block.proofs.Codes.{reading-coded}
 
 -- an outcome by its two parts
 pub parts : {o : Analysis} {a : Answer} {l : List ℕ} (b : Answer) (k : List ℕ) → o ≡ analysis a l → b ≡ a → k ≡ l → (b ≡ o .reply) × (k ≡ o .report)
@@ -84,41 +82,43 @@ module _ (olds news : List Task) where
     unfolding pairOf firstOf
     pair-done h e = rw (le-ltb _ _ h, e) (ap (analysis done) (sym (over-front (rowsOf olds news) report (omega (arith, rows-length)))))
 
--- ---- what the loader gave of a block
+pub pair-none : (report : List ℕ) → pairOf [] [] report ≡ analysis done report
+unfolding pairOf firstOf upTo flatMap
+pair-none report = rw (le-ltb (length report) (rowSize * (0 + 0)) (omega arith))
 
-module _ (side : ℕ) (b : List ℕ) (l : Loaded) (is : l ≡ loadedOf side b) where
-  code : (r : Reading) → l ≡ loaded r → l .answer .code ≡ loaded r .answer .code
-  code r e = ap (λ (x : Loaded). x .answer .code) e
+-- ---- what the checks and the table of a block say
 
-  pub loaded-spoilt : (l .answer .code ≡ 0 → ⊥) → readingOf side b ≡ spoilt (l .answer)
-  unfolding loadedOf
-  loaded-spoilt n = go (readingOf side b) is
-    where
-      go : (r : Reading) → l ≡ loaded r → r ≡ spoilt (l .answer)
-      go (spoilt a) e = rw e
-      go (holds m xs) e = absurd (n (code (holds m xs) e))
+module _ (side : ℕ) (b : List ℕ) where
+  pub verdict-spoilt : (a : Answer) → blockVerdict side b ≡ Refused a → readingOf side b ≡ spoilt a
+  unfolding readingOf
+  verdict-spoilt a e = rw e
 
-  pub loaded-held : l .answer .code ≡ 0 → readingOf side b ≡ holds (l .mode) (heldBy (l .table))
-  unfolding loadedOf
-  loaded-held h = go (readingOf side b) refl is
-    where
-      go : (r : Reading) → readingOf side b ≡ r → l ≡ loaded r → r ≡ holds (l .mode) (heldBy (l .table))
-      go (spoilt a) p e = absurd (omega (arith, code (spoilt a) e, reading-coded side b a p))
-      go (holds m xs) p e = rw e (ap (holds m) (sym (table-tasks xs)))
+  module _ (passed : blockVerdict side b ≡ Passed) where
+    pub verdict-holds : readingOf side b ≡ holds (modeNumber b) (tasksIn b (countByte b))
+    unfolding readingOf
+    verdict-holds = rw passed
 
-  pub loaded-sound : l .answer .code ≡ 0 → Sound side (l .table)
-  unfolding loadedOf
-  loaded-sound h = go (readingOf side b) refl is
-    where
-      go : (r : Reading) → readingOf side b ≡ r → l ≡ loaded r → Sound side (l .table)
-      go (spoilt a) p e = absurd (omega (arith, code (spoilt a) e, reading-coded side b a p))
-      go (holds m xs) p e =
-          let legal = reading-legal side m b xs p in
-          rw e record {
-            room = simp (length-append, length-replicate) (omega (arith, legal .few));
-            few = legal .few;
-            legal = subst (λ (l : List Task). Legal side l) (sym (table-tasks xs)) legal;
-          }
+    pub verdict-none : countByte b ≡ 0 → readingOf side b ≡ holds (modeNumber b) []
+    unfolding upTo
+    verdict-none z = verdict-holds ∙ ap (λ (n : ℕ). holds (modeNumber b) (tasksIn b n)) z
+
+    module _ (n : ℕ) (t : Table) (counted : n ≡ countByte b) (is : t ≡ tableOf (tasksIn b n)) where
+      held : heldBy t ≡ tasksIn b (countByte b)
+      held = rw is (table-tasks (tasksIn b n) ∙ ap (tasksIn b) counted)
+
+      pub table-held : readingOf side b ≡ holds (modeNumber b) (heldBy t)
+      table-held = verdict-holds ∙ ap (holds (modeNumber b)) (sym held)
+
+      pub table-sound : Sound side t
+      table-sound =
+          let legal = subst (λ (l : List Task). Legal side l) (sym held) (block-legal side b passed) in
+          record { room = room; few = few; legal = legal }
+        where
+          few : t .count ≤ mostTasks
+          few = omega (arith, ap (λ (x : Table). x .count) is, ap (λ (k : ℕ). length (tasksIn b k)) counted, block-legal side b passed .few)
+
+          room : length (t .tasks) ≡ mostTasks
+          room = ap (λ (x : Table). length (x .tasks)) is ∙ simp (length-append, length-replicate) (omega (arith, ap (λ (x : Table). x .count) is, few))
 
 module _ (oldBlock newBlock report : List ℕ) where
   pub analyse-old : (a : Answer) → readingOf 0 oldBlock ≡ spoilt a → analyseOf oldBlock newBlock report ≡ analysis a report

@@ -43,21 +43,22 @@ fn settle(olds: Table, news: Table, report: &mut [u32]) -> Answer
     }
 }
 
-// Codes 1 to 7 on the old block, then on the new one; then the pair.
+// Codes 1 to 7 on the old block, then on the new one; then the pair. Two empty tables have no row and nothing that could be late.
 pub fn analyse(old: &[u8], new: &[u8], report: &mut [u32]) -> Answer
     ensures { λ r. ⌜ (r ≡ analyseOf (now (old .entry)) (now (new .entry)) (now (report .entry)) .reply) × (now (report .exit) ≡ analyseOf (now (old .entry)) (now (new .entry)) (now (report .entry)) .report) ⌝ }
 {
-    let leaving = reader::load(old, 0);
-    let refusal = leaving.answer;
-    if refusal.code != 0 {
-        return refusal;
+    if let Verdict::Refused(a) = checks::check_block(old, 0) {
+        return a;
     }
-    let entering = reader::load(new, 1);
-    let refusal = entering.answer;
-    if refusal.code != 0 {
-        return refusal;
+    if let Verdict::Refused(a) = checks::check_block(new, 1) {
+        return a;
     }
-    let olds = leaving.table;
-    let news = entering.table;
+    let n = base::count(old[3]);
+    let k = base::count(new[3]);
+    if n + k == 0 {
+        return plain(0);
+    }
+    let olds = tasks::table_of(old, n);
+    let news = tasks::table_of(new, k);
     settle(olds, news, report)
 }

@@ -1,42 +1,117 @@
-use Rattle.pair.proofs.Exits.{parts, loaded-held, loaded-spoilt, loaded-sound, analyse-old, analyse-new, analyse-pair}
-use mathlib.Core.Path.{refl}
+use Rattle.block.specs.declared.Verdict.the-variants.{Passed}
+use Rattle.block.specs.Block.{blockVerdict}
+use Rattle.block.proofs.Reading.{block-length, block-count}
+use Rattle.pair.proofs.Exits.{parts, verdict-spoilt, verdict-holds, verdict-none, table-held, table-sound, pair-none, analyse-old, analyse-new, analyse-pair}
+use mathlib.Core.Path.{_≡_, refl, sym, _∙_}
+use native.Mathlib.Omega.{arith}
 use borrow.Author.Needs.{needs}
 use Rattle.pair.proofs.analyse.Statement.{statement}
 use Rattle.pair.proofs.analyse.Tie as tie
 
-load-requires : tie.Need-load-requires
-load-requires c κs = search needs
+-- both blocks pass
+old-passed : (c : tie.After-enum-told) → blockVerdict 0 (c .before .before .before .before .before .before .args .old .now) ≡ Passed
+old-passed c = sym (c .before .before .check-block .ensures) ∙ c .enum-told .given .1
+
+new-passed : (c : tie.After-enum-told2) → blockVerdict 1 (c .before .before .before .before .before .before .before .before .before .args .new .now) ≡ Passed
+new-passed c = sym (c .before .before .check-block2 .ensures) ∙ c .enum-told2 .given .1
+
+check-block-requires : tie.Need-check-block-requires
+check-block-requires c κs = search needs
+
+enum-known-a : tie.Need-enum-known-a
+enum-known-a c = search needs
 
 returns : tie.Need-returns
 returns c =
-    parts _ _ (analyse-old _ _ _ _ (loaded-spoilt 0 _ _ (c .before .before .before .load .ensures) (c .if1 .taken))) refl refl
+    parts _ _ (analyse-old _ _ _ _ (verdict-spoilt 0 _ _ (sym (c .before .before .before .check-block .ensures) ∙ c .before .a .given .1))) refl refl
 
-load-requires-2 : tie.Need-load-requires-2
-load-requires-2 c κs = search needs
+enum-told : tie.Need-enum-told
+enum-told c = search needs
+
+check-block-requires-2 : tie.Need-check-block-requires-2
+check-block-requires-2 c κs = search needs
+
+enum-known-a-2 : tie.Need-enum-known-a-2
+enum-known-a-2 c = search needs
 
 returns-2 : tie.Need-returns-2
 returns-2 c =
-    parts _ _ (analyse-new _ _ _ _ _ _ (loaded-held 0 _ _ (c .before .before .before .before .before .before .before .load .ensures) (c .before .before .before .before .if1 .left)) (loaded-spoilt 1 _ _ (c .before .before .before .load2 .ensures) (c .if2 .taken))) refl refl
+    parts _ _ (analyse-new _ _ _ _ _ _ (verdict-holds 0 _ (old-passed (c .before .before .before .before))) (verdict-spoilt 1 _ _ (sym (c .before .before .before .check-block2 .ensures) ∙ c .before .a2 .given .1))) refl refl
+
+enum-told-2 : tie.Need-enum-told-2
+enum-told-2 c = search needs
+
+shared-slice-read-count : tie.Need-shared-slice-read-count
+shared-slice-read-count c = omega (arith, block-length _ _ (old-passed (c .before .before .before .before)))
+
+count-requires : tie.Need-count-requires
+count-requires c κs = search needs
+
+shared-slice-read-count-2 : tie.Need-shared-slice-read-count-2
+shared-slice-read-count-2 c = omega (arith, block-length _ _ (new-passed (c .before .before .before)))
+
+count-requires-2 : tie.Need-count-requires-2
+count-requires-2 c κs = search needs
+
+add-if1 : tie.Need-add-if1
+add-if1 c =
+    omega (arith, c .count2 .ensures, c .before .before .count .ensures, block-count _ _ (old-passed (c .before .before .before .before .before .before .before)), block-count _ _ (new-passed (c .before .before .before .before)))
+
+plain-requires : tie.Need-plain-requires
+plain-requires c κs = search needs
+
+returns-3 : tie.Need-returns-3
+returns-3 c =
+    let z = c .before .if1 .taken in
+    parts _ _
+    (analyse-pair _ _ _ _ _ _ _
+    (verdict-none 0 _ (old-passed (c .before .before .before .before .before .before .before .before .before)) (omega (arith, c .before .before .before .before .count .ensures)))
+    (verdict-none 1 _ (new-passed (c .before .before .before .before .before .before)) (omega (arith, c .before .before .count2 .ensures)))
+    ∙ pair-none _) (c .plain .ensures) refl
+
+table-of-requires : tie.Need-table-of-requires
+table-of-requires c κs =
+    (block-length _ _ (old-passed (c .before .before .before .before .before .before .before .before)), omega (arith, c .before .before .before .count .ensures, block-count _ _ (old-passed (c .before .before .before .before .before .before .before .before))))
+
+table-of-requires-2 : tie.Need-table-of-requires-2
+table-of-requires-2 c κs =
+    (block-length _ _ (new-passed (c .before .before .before .before .before .before)), omega (arith, c .before .before .count2 .ensures, block-count _ _ (new-passed (c .before .before .before .before .before .before))))
 
 settle-requires : tie.Need-settle-requires
 settle-requires c κs =
-    (loaded-sound 0 _ _ (c .before .before .before .before .before .before .before .before .before .before .load .ensures) (c .before .before .before .before .before .before .before .if1 .left), loaded-sound 1 _ _ (c .before .before .before .before .before .before .load2 .ensures) (c .before .before .before .if2 .left))
+    (table-sound 0 _ (old-passed (c .before .before .before .before .before .before .before .before .before .before .before)) _ _ (c .before .before .before .before .before .before .count .ensures) (c .before .before .table-of .ensures), table-sound 1 _ (new-passed (c .before .before .before .before .before .before .before .before)) _ _ (c .before .before .before .before .count2 .ensures) (c .before .table-of2 .ensures))
 
 same-length : tie.Need-same-length
 same-length c = search needs
 
-returns-3 : tie.Need-returns-3
-returns-3 c =
-    parts _ _ (analyse-pair _ _ _ _ _ _ _ (loaded-held 0 _ _ (c .before .before .before .before .before .before .before .before .before .before .before .before .before .load .ensures) (c .before .before .before .before .before .before .before .before .before .before .if1 .left)) (loaded-held 1 _ _ (c .before .before .before .before .before .before .before .before .before .load2 .ensures) (c .before .before .before .before .before .before .if2 .left))) (c .before .before .settle .ensures .0) (c .before .before .settle .ensures .1)
+returns-4 : tie.Need-returns-4
+returns-4 c =
+    parts _ _
+    (analyse-pair _ _ _ _ _ _ _
+    (table-held 0 _ (old-passed (c .before .before .before .before .before .before .before .before .before .before .before .before .before .before)) _ _ (c .before .before .before .before .before .before .before .before .before .count .ensures) (c .before .before .before .before .before .table-of .ensures))
+    (table-held 1 _ (new-passed (c .before .before .before .before .before .before .before .before .before .before .before)) _ _ (c .before .before .before .before .before .before .before .count2 .ensures) (c .before .before .before .before .table-of2 .ensures))) (c .before .before .settle .ensures .0) (c .before .before .settle .ensures .1)
 
 pub analyse-spec : {M : Type 1} → statement M
 analyse-spec =
     tie.close
     (tie.spec
-    load-requires
+    check-block-requires
+    enum-known-a
     returns
-    load-requires-2
+    enum-told
+    check-block-requires-2
+    enum-known-a-2
     returns-2
+    enum-told-2
+    shared-slice-read-count
+    count-requires
+    shared-slice-read-count-2
+    count-requires-2
+    add-if1
+    plain-requires
+    returns-3
+    table-of-requires
+    table-of-requires-2
     settle-requires
     same-length
-    returns-3)
+    returns-4)
