@@ -30,10 +30,6 @@ pub pick-below : (b : Bool) (x y : ℕ) → x ≤ y → pick b x ≤ y
 pick-below true x y h = h
 pick-below false x y h = omega arith
 
-pub pick-add : (b : Bool) (x y : ℕ) → pick b (x + y) ≡ pick b x + pick b y
-pick-add true x y = refl
-pick-add false x y = refl
-
 pub pick-pos : (b : Bool) (x : ℕ) → 0 < pick b x → (b ≡ true) × (0 < x)
 pick-pos true x h = (refl, h)
 pick-pos false x h = absurd (not-suc-le-zero h)

@@ -1,7 +1,7 @@
 -- The demands over places, each task's term by its kind, and that they are the demands of the window layer over the two lists.
 use Prim.Native.Nat.{ℕ, zero, suc, _+_, _-_, _≤_, _<_, min}
 use mathlib.Core.Path.{_≡_, refl, sym, ap, _∙_}
-use mathlib.Core.Bool.{true}
+use mathlib.Core.Bool.{}
 use mathlib.Core.List.{List, [], _∷_, _++_}
 use native.Mathlib.Decide.{decLt, ℕ-discrete}
 use native.Mathlib.Omega.{arith}
@@ -9,14 +9,14 @@ use borrow.Author.Tests.{ltb-true, lt-ltb, le-ltb, le-leb, lt-leb, eq-eqb, ne-eq
 use lib.Dec.{leb, eqb}
 use lib.ListN.{length}
 use Rattle.base.specs.Sums.{sum, sumOf}
-use Rattle.base.proofs.Sums.{sum-le, sum-lt, sum-eq, sum-add, sum-only, list-append, list-places}
+use Rattle.base.proofs.Sums.{sum-le, sum-eq, sum-add, sum-only, list-append, list-places}
 use Rattle.block.specs.declared.Task.{Task}
 use Rattle.block.specs.Checks.{noTask}
 use Rattle.block.specs.Legal.{Legal}
 use Rattle.window.specs.Order.{Kind, completed, aborted, new, kindAt, kindOf, rank, above}
 use Rattle.window.specs.Demand.{sumAbove, jobs, cut, steadyDemand, oldTerm, phaseDemand, leftTerm, requestDemand}
 use Rattle.run.specs.Promise.{count, task}
-use Rattle.run.proofs.Picks.{pick, pick-le, pick-add, pick-zero}
+use Rattle.run.proofs.Picks.{pick, pick-le, pick-zero}
 use Rattle.run.proofs.Tasks.{Sound}
 
 -- a sum over the places of the tasks above i
@@ -65,19 +65,6 @@ module _ (n : ℕ) (tk : ℕ → Task) (i : ℕ) where
   above-le f g h =
       sum-le n (λ j. pick (above (tk i) (tk j)) (f j)) (λ j. pick (above (tk i) (tk j)) (g j))
       (λ j l. pick-le (above (tk i) (tk j)) (f j) (g j) (λ e. h j l (ltb-true (rank (tk j)) (rank (tk i)) e)))
-
-  pub above-lt : (f g : ℕ → ℕ) → ((j : ℕ) → j < n → f j ≤ g j) → (j : ℕ) → j < n → above (tk i) (tk j) ≡ true → f j < g j → overAbove n tk i f < overAbove n tk i g
-  unfolding overAbove
-  above-lt f g h j l e d =
-      sum-lt n (λ j. pick (above (tk i) (tk j)) (f j)) (λ j. pick (above (tk i) (tk j)) (g j))
-      (λ j l. pick-le (above (tk i) (tk j)) (f j) (g j) (λ e. h j l)) j l (rw e d)
-
-  pub above-add : (f g : ℕ → ℕ) → overAbove n tk i (λ j. f j + g j) ≡ overAbove n tk i f + overAbove n tk i g
-  unfolding overAbove
-  above-add f g =
-      sum-eq n (λ j. pick (above (tk i) (tk j)) (f j + g j)) (λ j. pick (above (tk i) (tk j)) (f j) + pick (above (tk i) (tk j)) (g j))
-      (λ j l. pick-add (above (tk i) (tk j)) (f j) (g j))
-      ∙ sum-add n (λ j. pick (above (tk i) (tk j)) (f j)) (λ j. pick (above (tk i) (tk j)) (g j))
 
   -- the sum over i and above is i's term and the sum over those above
   pub level-above : Sound n tk → i < n → (b : ℕ → ℕ) → sum n (λ j. pick (leb (rank (tk j)) (rank (tk i))) (b j)) ≡ b i + overAbove n tk i b
