@@ -3,8 +3,9 @@
 # make lib    target/staticlib/libvisnumar.a, for C and Rust to link with include/visnumar.h
 # make bench  the proved library beside plain C, as ratios (docs/BENCH.md)
 # make soak   random inputs against the second program for SECONDS (60)
+# make sweep  every small change of the block's definitions, which the prover has to refuse (ten minutes or more)
 .POSIX:
-.PHONY: run test setup text programs library lib bench soak clean
+.PHONY: run test setup text programs library lib bench soak sweep clean
 SECONDS = 60
 
 run: setup
@@ -25,6 +26,7 @@ text:
 	rt fmt --check
 	tests/contracts .
 	tests/scripts.sh
+	tests/sweep.py steps
 
 # What users run, and the comparison with the second program.
 programs: setup
@@ -50,6 +52,9 @@ bench: lib
 soak: setup
 	rt check batch
 	tests/soak.sh $(SECONDS)
+
+sweep: setup
+	tests/sweep.py
 
 clean:
 	rm -rf target

@@ -1,3 +1,4 @@
+pub mod Cases
 pub mod Verdicts
 pub mod Codes
 pub mod Heads

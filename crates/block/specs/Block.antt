@@ -110,11 +110,11 @@ abbrev pub outcome : Answer → List ℕ → Read
 outcome a l = record { reply = a; list = l }
 
 abbrev pub filled : ℕ → Reading → List ℕ → Read
-filled side (spoilt a) l = record { reply = a; list = l }
+filled side (spoilt a) l = outcome a l
 filled side (holds mode xs) l =
     cond (ltb (length l) (listSize * length xs))
-    (record { reply = answer 8 2 0 0; list = l })
-    (record { reply = answer 0 side (length xs) mode; list = listOf xs ++ drop (listSize * length xs) l })
+    (outcome (answer 8 2 0 0) l)
+    (outcome (answer 0 side (length xs) mode) (listOf xs ++ drop (listSize * length xs) l))
 
 unfoldable pub readOf : ℕ → List ℕ → List ℕ → Read
 readOf side b l = filled side (readingOf side b) l

@@ -3,4 +3,5 @@ pub mod Record
 pub mod Answers
 pub mod Checks
 pub mod Block
+pub mod Cases
 pub mod Legal

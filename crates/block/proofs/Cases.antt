@@ -1,0 +1,57 @@
+-- The cases of the block hold of the definitions that the contracts cite.
+use Prim.Native.Nat.{ℕ, _+_, _*_}
+use mathlib.Core.Path.{_≡_, refl}
+use mathlib.Core.List.{[], _∷_, _++_, map, flatMap}
+use lib.ListN.{replicate}
+use Rattle.base.specs.Lists.{part, every, any, upTo}
+use Rattle.block.specs.Format.{blockSize, checkPlace, checkWords}
+use Rattle.block.specs.Answers.{answer, done, firstOf, answerOf}
+use Rattle.block.specs.Record.{wordBytes, taskOf, recordOf, taskFrom, numbersOf}
+use Rattle.block.specs.Checks.{kindOn, taskChecks, alike}
+use Rattle.block.specs.Block.{modeNumber, wordSum, checkOf, headed, headChecks, blockChecks, blockVerdict, listHead, listVerdict, headOf, bodyOf, holds, spoilt, filled, tableOf, loaded}
+use Rattle.block.specs.Cases.{taskBy, shownTask, shownBytes, shownNumbers, codeFound, codeExpected, ofRoom, second, cases}
+
+-- every verdict of the table has its code
+pub cases-hold : map codeFound cases ≡ map codeExpected cases
+unfolding cases firstOf every any upTo taskOf taskFrom kindOn taskChecks alike wordSum headed headChecks blockVerdict listHead listVerdict
+cases-hold = refl
+
+-- the answers of a block whose head and record all refuse, of its unused room, and of a list whose head refuses throughout
+pub shown-order : (map answerOf (blockChecks 1 (1 ∷ 0 ∷ 0 ∷ 1 ∷ [])) ≡ answer 1 1 0 0 ∷ answer 2 1 0 0 ∷ answer 3 1 0 0 ∷ answer 4 1 0 0 ∷ answer 5 1 0 0 ∷ done ∷ done ∷ [])
+    × (answerOf (ofRoom 24 487) ≡ answer 7 0 0 0) × (map answerOf (listHead 9 8 511) ≡ answer 1 2 0 0 ∷ answer 11 2 0 0 ∷ answer 4 2 0 0 ∷ [])
+unfolding firstOf every any upTo taskOf kindOn taskChecks alike wordSum headed headChecks listHead
+shown-order = (refl, refl, refl)
+
+-- done names neither side nor record; a double names the later record
+pub shown-answer : (done ≡ answer 0 2 0 0) × (answerOf (second 1 5 1 6) ≡ answer 6 0 1 0)
+unfolding any alike
+shown-answer = (refl, refl)
+
+-- a part goes from its first place up to its second
+pub shown-part : part {A = ℕ} (10 ∷ 11 ∷ 12 ∷ 13 ∷ []) 1 3 ≡ 11 ∷ 12 ∷ []
+shown-part = refl
+
+-- the task, its bytes and its numbers are the same one
+pub shown : (taskOf shownBytes ≡ shownTask) × (recordOf shownTask ≡ shownBytes) × (taskFrom shownNumbers ≡ shownTask) × (numbersOf shownTask ≡ shownNumbers)
+unfolding taskOf recordOf taskFrom numbersOf
+shown = (refl, refl, refl, refl)
+
+-- the bytes of a head, of a body without tasks, and of a word
+pub shown-head : (headOf 1 513 30 ≡ 77 ∷ 84 ∷ 1 ∷ 30 ∷ 1 ∷ 2 ∷ 0 ∷ 0 ∷ []) × (modeNumber (headOf 1 513 30) ≡ 513) × (bodyOf 1 513 [] ≡ headOf 1 513 0 ++ replicate 500 0) × (wordBytes 67305985 ≡ 1 ∷ 2 ∷ 3 ∷ 4 ∷ []) × (wordBytes 4294967295 ≡ replicate 4 255)
+unfolding headOf bodyOf flatMap
+shown-head = (refl, refl, refl, refl, refl)
+
+-- words are added modulo 2^32, up to the check, which ends the block
+pub shown-check : (checkOf (1 ∷ 2 ∷ 3 ∷ 4 ∷ 5 ∷ []) ≡ 67305990) × (checkOf (replicate 8 255) ≡ 4294967294) × (4 * checkWords ≡ checkPlace) × (checkPlace + 4 ≡ blockSize)
+unfolding wordSum
+shown-check = (refl, refl, refl, refl)
+
+-- a list has room for seven numbers a task, and the number behind them stays
+pub shown-room : (filled 1 (holds 513 (shownTask ∷ [])) (replicate 6 9) .reply ≡ answer 8 2 0 0) × (filled 1 (holds 513 (shownTask ∷ [])) (replicate 7 9) .reply ≡ answer 0 1 1 513)
+    × (filled 1 (holds 513 (shownTask ∷ [])) (replicate 8 9) .list ≡ shownNumbers ++ (9 ∷ []))
+unfolding numbersOf flatMap
+shown-room = (refl, refl, refl)
+
+-- the thirty places of a table without tasks are zero; such a table and mode 0 stand beside a refusal
+pub shown-table : (tableOf [] .tasks ≡ replicate 30 (taskBy 0 0 0 0 0 0 0)) × (loaded (spoilt (answer 3 0 0 0)) ≡ record { answer = answer 3 0 0 0; mode = 0; table = tableOf [] })
+shown-table = (refl, refl)
