@@ -1,0 +1,2 @@
+mod Tries
+pub mod Unique

@@ -1,0 +1,90 @@
+-- Each public function's contract leaves one answer and one content of what is lent. What is printed no contract says: those functions answer nothing.
+use mathlib.Core.Path.{_≡_, sym, _∙_}
+use denote.Ref.{now}
+use contract.Lifetimes.{Lfts}
+use borrow.Fn.Kinds.{Dens, resT, endedOf}
+use denote.Triple.Clauses.{AtExit}
+use Rattle.tries.proofs.number.Reads as number
+use Rattle.tries.proofs.number.Kinds as number-kinds
+use Rattle.tries.proofs.length_of.Reads as length-of
+use Rattle.tries.proofs.length_of.Kinds as length-of-kinds
+use Rattle.tries.proofs.good_list.Reads as good-list
+use Rattle.tries.proofs.good_list.Kinds as good-list-kinds
+use Rattle.tries.proofs.damage.Reads as damage
+use Rattle.tries.proofs.damage.Kinds as damage-kinds
+use Rattle.tries.proofs.no_numbers.Reads as no-numbers
+use Rattle.tries.proofs.no_numbers.Kinds as no-numbers-kinds
+use Rattle.tries.proofs.no_bytes.Reads as no-bytes
+use Rattle.tries.proofs.no_bytes.Kinds as no-bytes-kinds
+use Rattle.tries.proofs.no_block.Reads as no-block
+use Rattle.tries.proofs.no_block.Kinds as no-block-kinds
+use Rattle.tries.proofs.same_from.Reads as same-from
+use Rattle.tries.proofs.same_from.Kinds as same-from-kinds
+use Rattle.tries.proofs.say.Reads as say
+use Rattle.tries.proofs.say.Kinds as say-kinds
+use Rattle.tries.proofs.say_numbers.Reads as say-numbers
+use Rattle.tries.proofs.say_numbers.Kinds as say-numbers-kinds
+use Rattle.tries.proofs.say_answer.Reads as say-answer
+use Rattle.tries.proofs.say_answer.Kinds as say-answer-kinds
+use Rattle.tries.proofs.say_kept.Reads as say-kept
+use Rattle.tries.proofs.say_kept.Kinds as say-kept-kinds
+use Rattle.tries.proofs.say_outcome.Reads as say-outcome
+use Rattle.tries.proofs.say_outcome.Kinds as say-outcome-kinds
+use Rattle.tries.proofs.say_back.Reads as say-back
+use Rattle.tries.proofs.say_back.Kinds as say-back-kinds
+
+pub number-unique : (κs : Lfts 1) (a : Dens κs number-kinds.ps) (r r′ : resT number-kinds.r κs .Denot) (s s′ : AtExit (endedOf 1 number-kinds.ps number-kinds.r) κs)
+    → number.Post κs a r s → number.Post κs a r′ s′ → r ≡ r′
+number-unique κs a r r′ s s′ p q = p ∙ sym q
+
+pub length-of-unique : (κs : Lfts 1) (a : Dens κs length-of-kinds.ps) (r r′ : resT length-of-kinds.r κs .Denot) (s s′ : AtExit (endedOf 1 length-of-kinds.ps length-of-kinds.r) κs)
+    → length-of.Post κs a r s → length-of.Post κs a r′ s′ → r ≡ r′
+length-of-unique κs a r r′ s s′ p q = p ∙ sym q
+
+pub good-list-unique : (κs : Lfts 0) (a : Dens κs good-list-kinds.ps) (r r′ : resT good-list-kinds.r κs .Denot) (s s′ : AtExit (endedOf 0 good-list-kinds.ps good-list-kinds.r) κs)
+    → good-list.Post κs a r s → good-list.Post κs a r′ s′ → r ≡ r′
+good-list-unique κs a r r′ s s′ p q = p ∙ sym q
+
+pub damage-unique : (κs : Lfts 2) (a : Dens κs damage-kinds.ps) (r r′ : resT damage-kinds.r κs .Denot) (s s′ : AtExit (endedOf 2 damage-kinds.ps damage-kinds.r) κs)
+    → damage.Post κs a r s → damage.Post κs a r′ s′ → now (s .0) ≡ now (s′ .0)
+damage-unique κs a r r′ s s′ p q = p ∙ sym q
+
+pub no-numbers-unique : (κs : Lfts 0) (a : Dens κs no-numbers-kinds.ps) (r r′ : resT no-numbers-kinds.r κs .Denot) (s s′ : AtExit (endedOf 0 no-numbers-kinds.ps no-numbers-kinds.r) κs)
+    → no-numbers.Post κs a r s → no-numbers.Post κs a r′ s′ → r ≡ r′
+no-numbers-unique κs a r r′ s s′ p q = p ∙ sym q
+
+pub no-bytes-unique : (κs : Lfts 0) (a : Dens κs no-bytes-kinds.ps) (r r′ : resT no-bytes-kinds.r κs .Denot) (s s′ : AtExit (endedOf 0 no-bytes-kinds.ps no-bytes-kinds.r) κs)
+    → no-bytes.Post κs a r s → no-bytes.Post κs a r′ s′ → r ≡ r′
+no-bytes-unique κs a r r′ s s′ p q = p ∙ sym q
+
+pub no-block-unique : (κs : Lfts 0) (a : Dens κs no-block-kinds.ps) (r r′ : resT no-block-kinds.r κs .Denot) (s s′ : AtExit (endedOf 0 no-block-kinds.ps no-block-kinds.r) κs)
+    → no-block.Post κs a r s → no-block.Post κs a r′ s′ → r ≡ r′
+no-block-unique κs a r r′ s s′ p q = p ∙ sym q
+
+pub same-from-unique : (κs : Lfts 2) (a : Dens κs same-from-kinds.ps) (r r′ : resT same-from-kinds.r κs .Denot) (s s′ : AtExit (endedOf 2 same-from-kinds.ps same-from-kinds.r) κs)
+    → same-from.Post κs a r s → same-from.Post κs a r′ s′ → r ≡ r′
+same-from-unique κs a r r′ s s′ p q = p ∙ sym q
+
+pub say-unique : (κs : Lfts 1) (a : Dens κs say-kinds.ps) (r r′ : resT say-kinds.r κs .Denot) (s s′ : AtExit (endedOf 1 say-kinds.ps say-kinds.r) κs)
+    → say.Post κs a r s → say.Post κs a r′ s′ → r ≡ r′
+say-unique κs a r r′ s s′ p q = p ∙ sym q
+
+pub say-numbers-unique : (κs : Lfts 2) (a : Dens κs say-numbers-kinds.ps) (r r′ : resT say-numbers-kinds.r κs .Denot) (s s′ : AtExit (endedOf 2 say-numbers-kinds.ps say-numbers-kinds.r) κs)
+    → say-numbers.Post κs a r s → say-numbers.Post κs a r′ s′ → r ≡ r′
+say-numbers-unique κs a r r′ s s′ p q = p ∙ sym q
+
+pub say-answer-unique : (κs : Lfts 0) (a : Dens κs say-answer-kinds.ps) (r r′ : resT say-answer-kinds.r κs .Denot) (s s′ : AtExit (endedOf 0 say-answer-kinds.ps say-answer-kinds.r) κs)
+    → say-answer.Post κs a r s → say-answer.Post κs a r′ s′ → r ≡ r′
+say-answer-unique κs a r r′ s s′ p q = p ∙ sym q
+
+pub say-kept-unique : (κs : Lfts 0) (a : Dens κs say-kept-kinds.ps) (r r′ : resT say-kept-kinds.r κs .Denot) (s s′ : AtExit (endedOf 0 say-kept-kinds.ps say-kept-kinds.r) κs)
+    → say-kept.Post κs a r s → say-kept.Post κs a r′ s′ → r ≡ r′
+say-kept-unique κs a r r′ s s′ p q = p ∙ sym q
+
+pub say-outcome-unique : (κs : Lfts 0) (a : Dens κs say-outcome-kinds.ps) (r r′ : resT say-outcome-kinds.r κs .Denot) (s s′ : AtExit (endedOf 0 say-outcome-kinds.ps say-outcome-kinds.r) κs)
+    → say-outcome.Post κs a r s → say-outcome.Post κs a r′ s′ → r ≡ r′
+say-outcome-unique κs a r r′ s s′ p q = p ∙ sym q
+
+pub say-back-unique : (κs : Lfts 0) (a : Dens κs say-back-kinds.ps) (r r′ : resT say-back-kinds.r κs .Denot) (s s′ : AtExit (endedOf 0 say-back-kinds.ps say-back-kinds.r) κs)
+    → say-back.Post κs a r s → say-back.Post κs a r′ s′ → r ≡ r′
+say-back-unique κs a r r′ s s′ p q = p ∙ sym q

@@ -1,0 +1,242 @@
+// What the programs that run edge cases share: what a line of their tries says, good lists, damage to a block, lent memory, printing.
+// No contract can say what is printed.
+ghost use mathlib.Core.Path.{_≡_};
+ghost use Prim.Native.Nat.{_<_, _≤_, min};
+ghost use lib.ListN.{length, drop};
+ghost use Rattle.block.specs.Format.{blockSize};
+ghost use Rattle.tries.specs.Tries.{wordBy, toldBy, numberOf, goodTask, goodList, putByte, mended, damaged, noNumbers, noBytes, noBlock, agree};
+use block::Answer;
+use block::BLOCK_SIZE;
+use block::CHECK_PLACE;
+use block::LIST_SIZE;
+use block::Task;
+use libc::STDOUT_FILENO;
+
+// The largest memory lent: 32 tasks, and a byte more than a block.
+pub const MOST_NUMBERS: usize = 224;
+
+pub const MOST_BYTES: usize = 513;
+
+const GOOD_TASKS: usize = 32;
+
+// ---- what a line says
+
+// Which word the next byte of a line is of.
+fn word_by(word: usize, b: u8) -> usize
+    requires { ⌜ word < 9223372036854775808 ⌝ }
+    ensures { λ r. ⌜ r ≡ wordBy word b ⌝ }
+{
+    if b == b' ' {
+        return word + 1;
+    }
+    word
+}
+
+// What word k said before, and with one byte more.
+fn told_by(k: usize, word: usize, x: u32, b: u8) -> u32
+    ensures { λ r. ⌜ r ≡ toldBy k word x b ⌝ }
+{
+    if b == b' ' {
+        return x;
+    }
+    if word != k {
+        return x;
+    }
+    ((10 * (x as u64) + (b % 16) as u64) % 4294967296) as u32
+}
+
+// What word k of a line says in decimal, counted from 0. Where the line has no such word, that is more than any place and any length.
+pub fn number(line: &[u8], k: usize) -> u32
+    ensures { λ r. ⌜ r ≡ numberOf k (now (line .entry)) ⌝ }
+{
+    let mut x: u32 = 0;
+    let mut word: usize = 0;
+    let mut i: usize = 0;
+    while i < line.len() {
+        let b = line[i];
+        x = told_by(k, word, x, b);
+        word = word_by(word, b);
+        i += 1;
+    }
+    if word < k {
+        return u32::MAX;
+    }
+    x
+}
+
+// The same as a length of at most so much.
+pub fn length_of(line: &[u8], k: usize, most: usize) -> usize
+    ensures { λ r. ⌜ r ≡ min (numberOf k (now (line .entry))) most ⌝ }
+{
+    base::least(number(line, k) as usize, most)
+}
+
+// ---- good lists
+
+fn good_task(side: u32, k: u8) -> Task
+    requires { ⌜ k < 32 ⌝ }
+    ensures { λ r. ⌜ r ≡ goodTask side k ⌝ }
+{
+    if side == 0 {
+        return Task {
+            kind: k % 2,
+            priority: 10 + k,
+            number: 300 + base::wide(k),
+            period: 1000,
+            deadline: 900,
+            execution: 7,
+            offset: 0,
+        };
+    }
+    Task {
+        kind: 2,
+        priority: 10 + k,
+        number: 300 + base::wide(k),
+        period: 1000,
+        deadline: 900,
+        execution: 7,
+        offset: 600 + base::wide(k),
+    }
+}
+
+// 32 tasks that break no rule, whose numbers need both their bytes where there are two.
+pub fn good_list(side: u32) -> [u32; 224]
+    ensures { λ r. ⌜ r ≡ goodList side ⌝ }
+{
+    let mut list = [0u32; 224];
+    let mut k: usize = 0;
+    while k < GOOD_TASKS {
+        let at = LIST_SIZE * k;
+        numbers::put_numbers(&mut list[at..at + LIST_SIZE], good_task(side, k as u8));
+        k += 1;
+    }
+    list
+}
+
+// ---- damage to a block
+
+// Puts what word k + 2 of a line says at the place that its word k says.
+fn put_byte(bytes: &mut [u8], line: &[u8], k: usize)
+    requires { ⌜ k < 100 ⌝ }
+    ensures { λ _. ⌜ now (bytes .exit) ≡ putByte k (now (line .entry)) (now (bytes .entry)) ⌝ }
+{
+    let at = number(line, k) as usize;
+    let byte = (number(line, k + 2) % 256) as u8;
+    if at < bytes.len() {
+        bytes[at] = byte;
+    }
+}
+
+// Gives a block the check that its other bytes ask for.
+fn mend(bytes: &mut [u8])
+    requires { ⌜ blockSize ≤ length (now bytes) ⌝ }
+    ensures { λ _. ⌜ now (bytes .exit) ≡ mended (now (bytes .entry)) ⌝ }
+{
+    let sum = words::check_of(&bytes[0..BLOCK_SIZE]);
+    puts::put_check(&mut bytes[CHECK_PLACE..BLOCK_SIZE], sum);
+}
+
+// The damage that the words of a line from word 10 on say: mend M byte PLACE put BYTE byte PLACE put BYTE.
+pub fn damage(bytes: &mut [u8], line: &[u8])
+    requires { ⌜ blockSize ≤ length (now bytes) ⌝ }
+    ensures { λ _. ⌜ now (bytes .exit) ≡ damaged (now (line .entry)) (now (bytes .entry)) ⌝ }
+{
+    put_byte(bytes, line, 13);
+    put_byte(bytes, line, 17);
+    if number(line, 11) != 1 {
+        return;
+    }
+    mend(bytes);
+}
+
+// ---- lent memory
+
+// What stands in lent memory before.
+pub fn no_numbers() -> [u32; 224]
+    ensures { λ r. ⌜ r ≡ noNumbers ⌝ }
+{
+    [3000000000; 224]
+}
+
+pub fn no_bytes() -> [u8; 513]
+    ensures { λ r. ⌜ r ≡ noBytes ⌝ }
+{
+    [195; 513]
+}
+
+pub fn no_block() -> [u8; 512]
+    ensures { λ r. ⌜ r ≡ noBlock ⌝ }
+{
+    [195; 512]
+}
+
+// Whether two lists are the same from a place on, as far as both go.
+pub fn same_from(a: &[u32], b: &[u32], from: usize) -> bool
+    ensures { λ r. ⌜ r ≡ agree (drop from (now (a .entry))) (drop from (now (b .entry))) ⌝ }
+{
+    let end = base::least(a.len(), b.len());
+    let mut i = from;
+    while i < end {
+        if a[i] != b[i] {
+            return false;
+        }
+        i += 1;
+    }
+    true
+}
+
+// ---- what is printed
+
+pub fn say(text: &[u8])
+    ensures { λ r. ⌜ r ≡ tt ⌝ }
+{
+    io::write_all(STDOUT_FILENO, text);
+}
+
+// A text, then each number with a space before it.
+pub fn say_numbers(text: &[u8], numbers: &[u32])
+    ensures { λ r. ⌜ r ≡ tt ⌝ }
+{
+    say(text);
+    let mut i: usize = 0;
+    while i < numbers.len() {
+        say(b" ");
+        io::print_decimal(STDOUT_FILENO, numbers[i] as u64);
+        i += 1;
+    }
+}
+
+pub fn say_answer(a: Answer)
+    ensures { λ r. ⌜ r ≡ tt ⌝ }
+{
+    let numbers = [a.code, a.side, a.record, a.detail];
+    say_numbers(b":", &numbers);
+}
+
+pub fn say_kept(kept: bool)
+    ensures { λ r. ⌜ r ≡ tt ⌝ }
+{
+    if kept {
+        say(b" kept");
+        return;
+    }
+    say(b" changed");
+}
+
+// An answer, and whether the lent memory is as it was.
+pub fn say_outcome(a: Answer, kept: bool)
+    ensures { λ r. ⌜ r ≡ tt ⌝ }
+{
+    say_answer(a);
+    say_kept(kept);
+}
+
+pub fn say_back(same: bool)
+    ensures { λ r. ⌜ r ≡ tt ⌝ }
+{
+    if same {
+        say(b", back same");
+        return;
+    }
+    say(b", back other");
+}
