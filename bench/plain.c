@@ -1,7 +1,7 @@
 /* The same job in plain C, written for speed: two blocks and a report to an answer. It has the savings that the proved code
  * has: the chain; phases backwards from where the windows settle, each search from where the last one ended; the jump over
  * phases where the old part does not grow; one evaluation against the worst so far; forwards only for the first late phase;
- * the tasks above gathered once a row. It divides as C divides, in 32 bits, which is enough for every number here.
+ * the tasks above gathered once a row, and no search for a completed task with none above it. It divides as C divides, in 32 bits, which is enough for every number here.
  *
  * With -DCOUNT it counts how often a demand is worked out, which is as often as in the proved code. Without, the counter stays
  * 0 and costs nothing. */
@@ -193,6 +193,11 @@ static inline uint32_t last_phase(const struct term *olds, uint32_t n, uint32_t 
  * the steady one. */
 static void over_phases(const struct term *olds, uint32_t n, const struct term *news, uint32_t k, uint32_t c, uint32_t limit,
                         uint32_t *worst, uint32_t *phase, uint32_t *steady) {
+    if (n + k == 0) {
+        *worst = *steady = c;
+        *phase = 1;
+        return;
+    }
     uint32_t settled = search(olds, n, news, k, c, limit, c, limit);
     *steady = settled;
     uint32_t first = settled == 0 ? 0 : search(olds, n, news, k, c, 1, c, limit);

@@ -9,7 +9,6 @@ use lib.Dec.{eqb, ltb}
 use Rattle.base.specs.Sums.{sum}
 use Rattle.base.proofs.Recip.{recipOf}
 use Rattle.block.specs.declared.Task.{Task}
-use Rattle.block.specs.declared.Table.{Table}
 use Rattle.block.specs.Checks.{noTask}
 use Rattle.term.specs.Terms.{Good}
 use Rattle.window.specs.Order.{rank}
@@ -20,11 +19,10 @@ one b = cond b 1 0
 abbrev pub markOf : Task → ℕ
 markOf x = one (eqb (x .kind) 1)
 
--- a table that can be rolled
-pub record Periodic (t : Table) : Type 0 where
-  pub room : length (t .tasks) ≡ 30
-  pub few : t .count ≤ 30
-  pub periods : (j : ℕ) → j < t .count → 1 ≤ getD (t .tasks) j noTask .period
+-- n tasks that can be rolled
+pub record Periodic (xs : List Task) (n : ℕ) : Type 0 where
+  pub few : n ≤ 30
+  pub periods : (j : ℕ) → j < n → 1 ≤ getD xs j noTask .period
 
 -- the six numbers of a task, and the same written at a place
 abbrev pub sixOf : Task → List ℕ
@@ -40,7 +38,7 @@ rollOf l xs (suc n) = entered (rollOf l xs n) (6 * n) (getD xs n noTask)
 
 -- a roll of n tasks that can be divided by
 pub record Rolled (l : List ℕ) (n : ℕ) : Type 0 where
-  pub room : length l ≡ 180
+  pub room : 6 * n ≤ length l
   pub few : n ≤ 30
   pub good : (j : ℕ) → j < n → Good (getD l (6 * j) 0) (getD l (6 * j + 1) 0) (getD l (6 * j + 2) 0)
 

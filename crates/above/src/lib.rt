@@ -1,9 +1,12 @@
-// The tasks above a rank, as flat terms. A table is rolled out once, each row gathers from the roll.
+// The tasks above a rank, as flat terms. The tasks of a side are rolled out once, each row gathers from the roll.
 ghost use mathlib.Core.Path.{_≡_};
 ghost use Prim.Native.Nat.{_+_, _*_, _≤_, _<_};
+ghost use Rattle.base.proofs.Recip.{recipOf};
 ghost use mathlib.Core.Bool.{cond};
 ghost use lib.ListN.{length};
 ghost use lib.Dec.{eqb, ltb};
+ghost use Rattle.block.specs.Format.{blockSize};
+ghost use Rattle.block.specs.Block.{tasksIn};
 ghost use Rattle.window.specs.Order.{rank};
 ghost use Rattle.above.specs.Roll.{one, Periodic, Rolled, entered, rollOf, countAbove, placed, termsAbove, leftAbove};
 use block::Table;
@@ -31,13 +34,30 @@ fn mark_of(kind: u8) -> u64
     if kind == 1 { 1 } else { 0 }
 }
 
+fn long(x: u32) -> u64
+    ensures { λ r. ⌜ (r ≡ x) × (r < 4294967296) ⌝ }
+{
+    x as u64
+}
+
+// The reciprocal of p, by two divisions that 32 bits are enough for: 2^40 is 512 times 2^31.
+fn recip(p: u32) -> u64
+    requires { ⌜ (1 ≤ p) × (p < 65536) ⌝ }
+    ensures { λ r. ⌜ r ≡ recipOf p ⌝ }
+{
+    let q = 2147483648 / p;
+    let rest = 2147483648 - q * p;
+    let more = (512 * rest + (p - 1)) / p;
+    512 * long(q) + long(more)
+}
+
 // The numbers of x, written at a place of the roll.
 fn enter(nums: &mut [u64], at: usize, x: Task)
     requires { ⌜ (at + 5 < length (now nums)) × (1 ≤ x .period) ⌝ }
     ensures { λ _. ⌜ (now (nums .exit) ≡ entered (now (nums .entry)) at x) × (x .period < 65536) × (x .execution < 65536) ⌝ }
 {
     let p = base::wider(x.period);
-    nums[at] = (1099511627776 + (p - 1)) / p;
+    nums[at] = recip(base::whole(x.period));
     nums[at + 1] = p;
     nums[at + 2] = base::wider(x.execution);
     nums[at + 3] = mark_of(x.kind);
@@ -47,7 +67,7 @@ fn enter(nums: &mut [u64], at: usize, x: Task)
 
 // The roll of a table.
 pub fn roll(nums: &mut [u64], table: Table)
-    requires { ⌜ Periodic table × (length (now nums) ≡ 180) ⌝ }
+    requires { ⌜ (length (table .tasks) ≡ 30) × Periodic (table .tasks) (table .count) × (6 * table .count ≤ length (now nums)) ⌝ }
     ensures { λ _. ⌜ (now (nums .exit) ≡ rollOf (now (nums .entry)) (table .tasks) (table .count)) × Rolled (now (nums .exit)) (table .count) ⌝ }
 {
     let n = table.count;
@@ -55,6 +75,18 @@ pub fn roll(nums: &mut [u64], table: Table)
     while j < n {
         let x = table.tasks[j];
         enter(nums, 6 * j, x);
+        j += 1;
+    }
+}
+
+// The roll of the first n records of a block.
+pub fn roll_records(nums: &mut [u64], block: &[u8], n: usize)
+    requires { ⌜ (length (now block) ≡ blockSize) × Periodic (tasksIn (now block) n) n × (6 * n ≤ length (now nums)) ⌝ }
+    ensures { λ _. ⌜ (now (nums .exit) ≡ rollOf (now (nums .entry)) (tasksIn (now (block .entry)) n) n) × Rolled (now (nums .exit)) n ⌝ }
+{
+    let mut j: usize = 0;
+    while j < n {
+        enter(nums, 6 * j, records::task_at(block, j));
         j += 1;
     }
 }
@@ -77,7 +109,7 @@ fn counts(a: u64, b: u64) -> usize
 
 // The terms of those of n rolled tasks that are above the rank p, and how many they are.
 pub fn gather(nums: &mut [u64], rolls: &[u64], n: usize, p: u64, which: usize) -> usize
-    requires { ⌜ Rolled (now rolls) n × (length (now nums) ≡ 120) × (which ≤ 5) ⌝ }
+    requires { ⌜ Rolled (now rolls) n × (4 * n ≤ length (now nums)) × (which ≤ 5) ⌝ }
     ensures { λ r. ⌜ (now (nums .exit) ≡ termsAbove (now (rolls .entry)) p which (now (nums .entry)) n) × (r ≡ countAbove (now (rolls .entry)) p n) ⌝ }
 {
     let mut count: usize = 0;

@@ -6,7 +6,7 @@ use mathlib.Core.List.{List, _++_}
 use native.Mathlib.Omega.{arith}
 use lib.ListN.{length, getD, take, drop}
 use lib.Seq.{getD-append-add, getD-drop}
-use Rattle.base.proofs.Lists.{flat-part, over-front}
+use Rattle.base.proofs.Lists.{flat-part}
 use Rattle.base.proofs.Search.{le-or-lt}
 use Rattle.block.specs.declared.Task.{Task}
 use Rattle.block.specs.declared.Verdict.{Verdict}
@@ -20,7 +20,8 @@ use Rattle.pair.specs.Analysis.{pairOf, judged, settled, pairChecks, ana
 use Rattle.pair.specs.Accepted.{Accepted}
 use Rattle.block.proofs.Codes.{reading-coded}
 use Rattle.pair.proofs.Codes.{late-coded}
-use Rattle.pair.proofs.Exits.{rows-length, row-width, pair-short, pair-late, pair-done}
+use Rattle.rows.proofs.Laid.{rows-length, row-width}
+use Rattle.pair.proofs.Exits.{pair-short, pair-late, pair-done}
 
 module _ (oldBlock newBlock report : List ℕ) where
   -- every refusal keeps the lent report
@@ -53,7 +54,7 @@ module _ (oldBlock newBlock report : List ℕ) where
           new-reads = q;
           room = h;
           timely = w;
-          rows = rw (pair-done olds news report h w) (over-front (rowsOf olds news) report (omega (arith, rows-length olds news)));
+          rows = rw (pair-done olds news report h w);
         }
 
     pair-accepted : pairOf olds news report .reply .code ≡ 0 → Accepted oldBlock newBlock report (pairOf olds news report .report)

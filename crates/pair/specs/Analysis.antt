@@ -1,15 +1,14 @@
 -- The analysis of two blocks: refusals in order, and what the lent report then holds. Definitions only.
 use Prim.Native.Nat.{ℕ, _+_, _*_}
-use mathlib.Core.List.{List, _∷_, _++_}
-use lib.ListN.{length, drop}
+use mathlib.Core.List.{List, _∷_}
+use lib.ListN.{length}
 use lib.Dec.{ltb}
 use Rattle.block.specs.declared.Task.{Task}
 use Rattle.block.specs.declared.Answer.{Answer}
 use Rattle.block.specs.declared.Verdict.{Verdict}
-use Rattle.block.specs.declared.Verdict.the-variants.{Passed, Refused}
-use Rattle.block.specs.Answers.{answer, done, refuse, firstOf}
+use Rattle.block.specs.Answers.{answer, refuse, firstOf, answerOf}
 use Rattle.block.specs.Block.{Reading, holds, spoilt, readingOf}
-use Rattle.rows.specs.Rows.{rowSize, rowsOf, lateChecks}
+use Rattle.rows.specs.Rows.{rowSize, rowsOf, lateChecks, reported}
 
 -- room for the rows, then every task in time
 abbrev pub pairChecks : List Task → List Task → ℕ → List Verdict
@@ -24,8 +23,7 @@ abbrev pub analysis : Answer → List ℕ → Analysis
 analysis a l = record { reply = a; report = l }
 
 abbrev pub settled : Verdict → List ℕ → List ℕ → Analysis
-settled Passed rows report = analysis done (rows ++ drop (length rows) report)
-settled (Refused a) rows report = analysis a report
+settled v rows report = analysis (answerOf v) (reported v rows report)
 
 -- the tasks of two blocks that read
 unfoldable pub pairOf : List Task → List Task → List ℕ → Analysis

@@ -1,14 +1,12 @@
 // The analysis of two blocks.
 ghost use mathlib.Core.Path.{_≡_};
 ghost use Rattle.block.specs.Answers.{answer};
-ghost use Rattle.window.specs.Sound.{Sound, heldBy};
+ghost use Rattle.block.specs.Block.{tasksIn};
+ghost use Rattle.rows.specs.Fill.{Held};
 ghost use Rattle.pair.specs.Analysis.{pairOf, analyseOf};
 use block::Answer;
-use block::Table;
 use block::Verdict;
-
-// Three numbers a row.
-const ROW_SIZE: usize = 3;
+use rows::ROW_SIZE;
 
 // An answer that names neither a side nor a task.
 fn plain(code: u32) -> Answer
@@ -23,23 +21,16 @@ fn plain(code: u32) -> Answer
 }
 
 // Codes 8 to 10, and the rows once nothing is refused.
-fn settle(olds: Table, news: Table, report: &mut [u32]) -> Answer
-    requires { ⌜ Sound 0 olds × Sound 1 news ⌝ }
-    ensures { λ r. ⌜ (r ≡ pairOf (heldBy olds) (heldBy news) (now (report .entry)) .reply) × (now (report .exit) ≡ pairOf (heldBy olds) (heldBy news) (now (report .entry)) .report) ⌝ }
+fn settle(old: &[u8], n: usize, new: &[u8], k: usize, report: &mut [u32]) -> Answer
+    requires { ⌜ Held 0 (now old) n × Held 1 (now new) k ⌝ }
+    ensures { λ r. ⌜ (r ≡ pairOf (tasksIn (now (old .entry)) n) (tasksIn (now (new .entry)) k) (now (report .entry)) .reply) × (now (report .exit) ≡ pairOf (tasksIn (now (old .entry)) n) (tasksIn (now (new .entry)) k) (now (report .entry)) .report) ⌝ }
 {
-    let size = ROW_SIZE * (olds.count + news.count);
-    if report.len() < size {
+    if report.len() < ROW_SIZE * (n + k) {
         return plain(8);
     }
-    let found = rows::rows_of(olds, news);
-    let verdict = found.verdict;
-    match verdict {
+    match rows::rows_of(old, n, new, k, report) {
         Verdict::Refused(a) => a,
-        Verdict::Passed => {
-            let numbers = found.numbers;
-            base::copy_numbers(report, &numbers[0..size]);
-            plain(0)
-        }
+        Verdict::Passed => plain(0),
     }
 }
 
@@ -58,7 +49,5 @@ pub fn analyse(old: &[u8], new: &[u8], report: &mut [u32]) -> Answer
     if n + k == 0 {
         return plain(0);
     }
-    let olds = tasks::table_of(old, n);
-    let news = tasks::table_of(new, k);
-    settle(olds, news, report)
+    settle(old, n, new, k, report)
 }

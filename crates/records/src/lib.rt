@@ -1,10 +1,13 @@
 // A task as sixteen bytes of a block: the task that they say, the rules of a record, what two records share. The definitions that the contracts cite stand in the specs of block.
 ghost use mathlib.Core.Path.{_≡_};
 ghost use lib.ListN.{length};
-ghost use Rattle.block.specs.Format.{recordSize};
+ghost use Prim.Native.Nat.{_<_};
+ghost use Rattle.block.specs.Format.{blockSize, mostTasks, recordSize};
+ghost use Rattle.block.specs.Block.{recordPart};
 ghost use Rattle.block.specs.Record.{taskOf};
 ghost use Rattle.block.specs.Answers.{firstOf};
 ghost use Rattle.block.specs.Checks.{recordChecks, alike};
+use block::HEAD_SIZE;
 use block::RECORD_SIZE;
 use block::Task;
 use block::Verdict;
@@ -24,6 +27,15 @@ pub fn record_at(rec: &[u8]) -> Task
         execution: words::half_at(rec, 8),
         offset: words::half_at(rec, 10),
     }
+}
+
+// The task of record k of a block.
+pub fn task_at(block: &[u8], k: usize) -> Task
+    requires { ⌜ (length (now block) ≡ blockSize) × (k < mostTasks) ⌝ }
+    ensures { λ r. ⌜ r ≡ taskOf (recordPart (now (block .entry)) k) ⌝ }
+{
+    let at = HEAD_SIZE + RECORD_SIZE * k;
+    record_at(&block[at..at + RECORD_SIZE])
 }
 
 pub fn check_record(rec: &[u8], side: u32, k: u32) -> Verdict

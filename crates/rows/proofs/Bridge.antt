@@ -60,15 +60,15 @@ module _ (r : List ℕ) (n : ℕ) (xs : List Task) (i : Task) (tells : Tells r n
       by-places (entryOf g r (rank i) which) h
       (λ j l. rw (tells .at j l 5 (omega arith), tells .at j l 1 (omega arith), tells .at j l 2 (omega arith), tells .at j l which w, e j l))
 
-  module _ (l : List ℕ) (room : length l ≡ 120) (rolled : Rolled r n) where
+  module _ (l : List ℕ) (room : 4 * n ≤ length l) (rolled : Rolled r n) where
     pub old-flat : Legal 0 xs → (m : ℕ) → oldSum (termsAbove r (rank i) 3 l n) (countAbove r (rank i) n) m ≡ sumAbove i (λ x. oldTerm (kindOf x) x m) xs
     old-flat legal m =
-        terms-sum r (rank i) 3 l room n rolled (before m)
+        terms-sum r (rank i) 3 l n rolled room (before m)
         ∙ entries (before m) 3 (λ x. oldTerm (kindOf x) x m) (omega arith) (λ j h. old-is m (task j) (task j .kind) (legal .rules j (omega (arith, tells .count)) .old refl) refl)
 
     pub new-flat : (u : ℕ) → newSum (termsAbove r (rank i) 4 l n) (countAbove r (rank i) n) u ≡ sumAbove i (λ x. jobs x (u - x .offset)) xs
     unfolding after
-    new-flat u = terms-sum r (rank i) 4 l room n rolled (after u) ∙ entries (after u) 4 (λ x. jobs x (u - x .offset)) (omega arith) (λ j h. refl)
+    new-flat u = terms-sum r (rank i) 4 l n rolled room (after u) ∙ entries (after u) 4 (λ x. jobs x (u - x .offset)) (omega arith) (λ j h. refl)
 
     -- a fourth number that is zero for every task gives whole jobs
     pub whole-steady : (which : ℕ) → which < 6 → ((j : ℕ) → j < n → getD (sixOf (task j)) which 0 ≡ 0)
@@ -79,7 +79,7 @@ module _ (r : List ℕ) (n : ℕ) (xs : List Task) (i : Task) (tells : Tells r n
         (λ u h. omega (
           arith,
           flat-steady terms count terms 0 (i .execution) (i .deadline) u h,
-          terms-sum r (rank i) which l room n rolled (before u),
+          terms-sum r (rank i) which l n rolled room (before u),
           entries (before u) which (λ x. jobs x u) w (λ j m. whole-is u (task j) (getD (sixOf (task j)) which 0) (z j m)),
         ))
       where
@@ -97,16 +97,16 @@ module _ (r : List ℕ) (n : ℕ) (xs : List Task) (i : Task) (tells : Tells r n
 
 -- ---- the windows and rows
 
-module _ (i : Task) (some : 1 ≤ i .execution) (o : List ℕ) (n : ℕ) (xs : List Task) (tells : Tells o n xs) (rolled : Rolled o n) (legal : Legal 0 xs) (l : List ℕ) (room : length l ≡ 120) where
+module _ (i : Task) (some : 1 ≤ i .execution) (o : List ℕ) (n : ℕ) (xs : List Task) (tells : Tells o n xs) (rolled : Rolled o n) (legal : Legal 0 xs) (l : List ℕ) where
   abbrev old : List ℕ
   old = termsAbove o (rank i) 3 l n
 
   abbrev count : ℕ
   count = countAbove o (rank i) n
 
-  steady-old : flatSteady old count (i .execution) (i .deadline) ≡ steadyWindow xs i
+  steady-old : 4 * n ≤ length l → flatSteady old count (i .execution) (i .deadline) ≡ steadyWindow xs i
   unfolding flatSteady phaseDemand sumAbove sumOf
-  steady-old =
+  steady-old room =
       window-same (flatDemand old count old 0 (i .execution) (i .deadline)) (phaseDemand xs [] i (i .deadline)) (i .deadline) same
       ∙ later-is-steady xs [] i legal some (i .deadline) (i .deadline) (omega arith)
     where
@@ -115,34 +115,34 @@ module _ (i : Task) (some : 1 ≤ i .execution) (o : List ℕ) (n : ℕ) (xs : L
           let m : min u (i .deadline) ≡ u = omega arith in
           rw m (omega (arith, flat-steady old count old 0 (i .execution) (i .deadline) u h, old-flat o n xs i tells l room rolled legal u))
 
-  pub aborted-is : (ys : List Task) → i .kind ≡ 1 → abortedRow (flatSteady (termsAbove o (rank i) 4 l n) count (i .execution) (i .deadline)) ≡ rowOf xs ys i
+  pub aborted-is : 4 * n ≤ length l → (ys : List Task) → i .kind ≡ 1 → abortedRow (flatSteady (termsAbove o (rank i) 4 l n) count (i .execution) (i .deadline)) ≡ rowOf xs ys i
   unfolding rowOf
-  aborted-is ys e =
+  aborted-is room ys e =
       ap abortedRow (whole-steady o n xs i tells l room rolled 4 (omega arith) (λ j h. legal .rules j (omega (arith, tells .count)) .offset refl))
       ∙ sym (ap (λ (q : ℕ). rowBy (kindAt q) xs ys i) e)
 
-  module _ (w : List ℕ) (k : ℕ) (ys : List Task) (told : Tells w k ys) (well : Rolled w k) (l′ : List ℕ) (room′ : length l′ ≡ 120) where
+  module _ (w : List ℕ) (k : ℕ) (ys : List Task) (told : Tells w k ys) (well : Rolled w k) (l′ : List ℕ) (room′ : 4 * k ≤ length l′) where
     abbrev later : List ℕ
     later = termsAbove w (rank i) 4 l′ k
 
     abbrev count′ : ℕ
     count′ = countAbove w (rank i) k
 
-    phase-flat : flatDemand old count later count′ (i .execution) ≡ phaseDemand xs ys i
+    phase-flat : 4 * n ≤ length l → flatDemand old count later count′ (i .execution) ≡ phaseDemand xs ys i
     unfolding flatDemand phaseDemand
-    phase-flat = λ z. λ x t. eq x t z
+    phase-flat room = λ z. λ x t. eq x t z
       where
         eq : (x t : ℕ) → i .execution + oldSum old count (min t x) + newSum later count′ (t - x) ≡ i .execution + sumAbove i (λ y. oldTerm (kindOf y) y (min t x)) xs + sumAbove i (λ y. jobs y (t - x - y .offset)) ys
         eq x t = omega (arith, old-flat o n xs i tells l room rolled legal (min t x), new-flat w k ys i told l′ room′ well (t - x))
 
-    pub completed-is : i .kind ≡ 0
+    pub completed-is : 4 * n ≤ length l → i .kind ≡ 0
         → completedRow (sweep (windowAt (flatDemand old count later count′ (i .execution)) (i .deadline)) (i .deadline)) (flatSteady old count (i .execution) (i .deadline)) ≡ rowOf xs ys i
     unfolding rowOf windowAt
-    completed-is e =
-        ap (λ (f : ℕ → ℕ → ℕ). completedRow (sweep (windowAt f (i .deadline)) (i .deadline)) (flatSteady old count (i .execution) (i .deadline))) phase-flat
-        ∙ (ap (completedRow (sweep (windowAt (phaseDemand xs ys i) (i .deadline)) (i .deadline))) steady-old ∙ sym (ap (λ (q : ℕ). rowBy (kindAt q) xs ys i) e))
+    completed-is room e =
+        ap (λ (f : ℕ → ℕ → ℕ). completedRow (sweep (windowAt f (i .deadline)) (i .deadline)) (flatSteady old count (i .execution) (i .deadline))) (phase-flat room)
+        ∙ (ap (completedRow (sweep (windowAt (phaseDemand xs ys i) (i .deadline)) (i .deadline))) (steady-old room) ∙ sym (ap (λ (q : ℕ). rowBy (kindAt q) xs ys i) e))
 
-    module _ (legal′ : Legal 1 ys) (e : 2 ≤ i .kind) where
+    module _ (legal′ : Legal 1 ys) (e : 2 ≤ i .kind) (room : 4 * k ≤ length l) where
       abbrev own : List ℕ
       own = termsAbove w (rank i) 3 l k
 

@@ -1,102 +1,169 @@
 -- Laws of rows laid one behind the other, and of the first late task.
-use Prim.Native.Nat.{ℕ, zero, suc, _+_, _-_, _*_, _≤_, _<_}
+use Prim.Native.Nat.{ℕ, suc, _+_, _-_, _*_, _≤_, _<_}
 use mathlib.Core.Path.{_≡_, refl, sym, ap, _∙_}
-use mathlib.Core.List.{List, [], _∷_, _++_, flatMap, append-nil, append-assoc}
-use lib.ListN.{length, getD, take, drop, replicate, length-append, length-replicate}
-use lib.Seq.{sets, sets-eq, take-suc, take-append-seam, drop-append-add}
+use mathlib.Core.Bool.{Bool, true, false, cond}
+use mathlib.Core.Logic.{⊎-elim}
+use mathlib.Core.List.{List, [], _∷_, _++_, append-nil}
+use lib.ListN.{length, getD, take, drop, length-append, take-append-drop}
+use lib.Seq.{sets, sets-eq, take-suc, take-add, take-at, take-all, take-append-seam, drop-cons, getD-take, getD-append-add, length-take-le}
+use lib.Dec.{ltb}
+use borrow.Author.Tests.{lt-ltb, le-ltb}
 use native.Mathlib.Omega.{arith}
 use native.Mathlib.Numerals.{add-one}
-use native.Mathlib.Nat.{add-zero, add-suc}
 use Rattle.base.specs.Lists.{upTo}
-use Rattle.base.proofs.Lists.{flat-append}
-use Rattle.block.proofs.Verdicts.{first-on, first-stop}
+use Rattle.base.proofs.Lists.{up-length, up-at, flat-length, flat-part}
+use Rattle.base.proofs.Search.{le-or-lt}
+use Rattle.block.proofs.Verdicts.{first-on, first-last}
 use Rattle.block.specs.declared.Task.{Task}
-use Rattle.block.specs.declared.Table.{Table}
 use Rattle.block.specs.declared.Answer.{Answer}
+use Rattle.block.specs.declared.Verdict.{Verdict}
 use Rattle.block.specs.declared.Verdict.the-variants.{Passed, Refused}
-use Rattle.block.specs.Answers.{answer, firstOf}
+use Rattle.block.specs.Answers.{firstOf}
 use Rattle.block.specs.Checks.{noTask}
+use Rattle.block.specs.Record.{taskOf}
+use Rattle.block.specs.Block.{recordPart, tasksIn}
+use Rattle.block.specs.Legal.{Legal}
 use Rattle.rows.specs.declared.Row.{Row}
 use Rattle.rows.specs.declared.Judged.{Judged}
 use Rattle.rows.specs.declared.Judged.the-variants.{Timely, Late}
-use Rattle.rows.specs.Flat.{RowFrom}
 use Rattle.rows.specs.Row.{rowOf}
-use Rattle.rows.specs.Rows.{rowNumbers, lateCheck}
-use Rattle.rows.specs.Fill.{checksOf, numbersOf, padded, Going, Filled}
+use Rattle.rows.specs.Rows.{rowSize, rowNumbers, rowsOf, lateCheck, lateChecks}
+use Rattle.rows.specs.Fill.{taskAt, checkAt, Going, Filled}
 
--- ---- numbers laid out
+pub row-width : (j : Judged) → length (rowNumbers j) ≡ rowSize
+row-width (Timely r) = refl
+row-width (Late d) = refl
 
-drop-zeros : (n m : ℕ) → drop n (replicate {A = ℕ} m 0) ≡ replicate (m - n) 0
-drop-zeros zero m = let e : m - 0 ≡ m = omega arith in rw e
-drop-zeros (suc n) zero = let e : 0 - suc n ≡ 0 = omega arith in rw e
-drop-zeros (suc n) (suc m) = let e : suc m - suc n ≡ m - n = omega arith in rw e (drop-zeros n m)
+pub tasks-length : (b : List ℕ) (n : ℕ) → length (tasksIn b n) ≡ n
+tasks-length b n = up-length (λ k. taskOf (recordPart b k)) n
 
-padded-sets : (l vs : List ℕ) → length l + length vs ≤ 180 → sets (padded l) (length l) vs ≡ padded (l ++ vs)
-unfolding padded
-padded-sets l vs h =
-    let e : 180 - length l - length vs ≡ 180 - length (l ++ vs) = simp length-append (omega arith) in
-    let fits : length l + length vs ≤ length (l ++ replicate (180 - length l) 0) = simp (length-append, length-replicate) (omega arith) in
-    sets-eq vs (l ++ replicate (180 - length l) 0) (length l) fits
-    ∙ rw (take-append-seam l (replicate (180 - length l) 0), drop-append-add l (replicate (180 - length l) 0) (length vs), drop-zeros (length vs) (180 - length l), e)
+-- one list behind another
+module _ {A : Type 0} (xs ys : List A) (d : A) where
+  pub in-first : (j : ℕ) → j < length xs → getD (xs ++ ys) j d ≡ getD xs j d
+  in-first j h = sym (getD-take (length xs) (xs ++ ys) j d h) ∙ ap (λ (l : List A). getD l j d) (take-append-seam xs ys)
 
-module _ (xs ys own : List Task) where
-  three : (r : Judged) → length (rowNumbers r) ≡ 3
-  three (Timely r) = refl
-  three (Late d) = refl
+  in-second : (j : ℕ) → length xs ≤ j → getD (xs ++ ys) j d ≡ getD ys (j - length xs) d
+  in-second j h =
+      let e : j ≡ length xs + (j - length xs) = omega arith in
+      ap (λ (i : ℕ). getD (xs ++ ys) i d) e ∙ getD-append-add xs ys (j - length xs) d
 
-  numbers-more : (j : ℕ) → j < length own → numbersOf xs ys own (j + 1) ≡ numbersOf xs ys own j ++ rowNumbers (rowOf xs ys (getD own j noTask))
-  unfolding numbersOf flatMap
-  numbers-more j h =
-      rw (add-one, take-suc own j noTask h, flat-append (λ i. rowNumbers (rowOf xs ys i)) (take j own) (getD own j noTask ∷ []), append-nil (rowNumbers (rowOf xs ys (getD own j noTask))))
+-- the task at place j of two blocks is that of their tasks
+pub task-place : (old : List ℕ) (n : ℕ) (new : List ℕ) (k j : ℕ) → j < n + k → taskAt old n new j ≡ getD (tasksIn old n ++ tasksIn new k) j noTask
+task-place old n new k j h = ⊎-elim second first (le-or-lt n j)
+  where
+    f : ℕ → Task
+    f i = taskOf (recordPart old i)
 
-  pub numbers-length : (j : ℕ) → j ≤ length own → length (numbersOf xs ys own j) ≡ 3 * j
-  unfolding numbersOf flatMap
-  numbers-length zero h = refl
-  numbers-length (suc j) h =
-      let e : numbersOf xs ys own (suc j) ≡ numbersOf xs ys own j ++ rowNumbers (rowOf xs ys (getD own j noTask)) = rw (sym (add-one j)) (numbers-more j h) in
-      ap length e ∙ rw (length-append (numbersOf xs ys own j) (rowNumbers (rowOf xs ys (getD own j noTask)))) (omega (arith, numbers-length j (omega arith), three (rowOf xs ys (getD own j noTask))))
+    g : ℕ → Task
+    g i = taskOf (recordPart new i)
 
-  module _ (code side : ℕ) where
-    checks-more : (j : ℕ) → checksOf xs ys own code side (suc j) ≡ checksOf xs ys own code side j ++ (lateCheck code side j (rowOf xs ys (getD own j noTask)) ∷ [])
-    unfolding checksOf upTo
-    checks-more j = refl
+    long : length (tasksIn old n) ≡ n
+    long = tasks-length old n
 
-    -- later tasks change nothing
-    late-stays : (a : Answer) (j k : ℕ) → firstOf (checksOf xs ys own code side j) ≡ Refused a → firstOf (checksOf xs ys own code side (j + k)) ≡ Refused a
-    late-stays a j zero e = rw add-zero e
-    late-stays a j (suc k) e = rw (add-suc, checks-more (j + k)) (first-stop (checksOf xs ys own code side (j + k)) _ a (late-stays a j k e))
+    first : j < n → taskAt old n new j ≡ getD (tasksIn old n ++ tasksIn new k) j noTask
+    first l = rw (lt-ltb j n l) (sym (in-first (tasksIn old n) (tasksIn new k) noTask j (omega (arith, long)) ∙ up-at f n j noTask l))
 
--- ---- one table's tasks, one after the other
+    second : n ≤ j → taskAt old n new j ≡ getD (tasksIn old n ++ tasksIn new k) j noTask
+    second l = rw (le-ltb j n l) (sym (in-second (tasksIn old n) (tasksIn new k) noTask j (omega (arith, long)) ∙ rw long (up-at g k (j - n) noTask (omega arith))))
 
-module _ (o : List ℕ) (n : ℕ) (w : List ℕ) (k : ℕ) (own : Table) (start code side : ℕ) (entry : List ℕ) where
+module _ (xs ys : List Task) where
+  pub rows-length : length (rowsOf xs ys) ≡ rowSize * (length xs + length ys)
+  rows-length =
+      flat-length (λ i. rowNumbers (rowOf xs ys i)) rowSize (λ i. row-width (rowOf xs ys i)) (xs ++ ys)
+      ∙ ap (λ (n : ℕ). rowSize * n) (length-append xs ys)
+
   abbrev task : ℕ → Task
-  task j = getD (own .tasks) j noTask
+  task j = getD (xs ++ ys) j noTask
 
-  pub going-first : Going o n w k own start code side entry 0 entry
-  unfolding checksOf numbersOf upTo firstOf flatMap
-  going-first = record { checks = λ xs ys t u a b. refl; laid = λ xs ys t u a b front e f. rw (append-nil front) f }
+  -- each of them can be in time
+  pub times : Legal 0 xs → Legal 1 ys → (j : ℕ) → j < length xs + length ys → (1 ≤ task j .execution) × (task j .execution ≤ task j .deadline)
+  times p q j h = ⊎-elim second first (le-or-lt (length xs) j)
+    where
+      first : j < length xs → (1 ≤ task j .execution) × (task j .execution ≤ task j .deadline)
+      first l = rw (in-first xs ys noTask j l) (p .rules j l .execution, p .rules j l .in-deadline)
 
-  module _ (j : ℕ) (numbers : List ℕ) (going : Going o n w k own start code side entry j numbers) (inside : j < length (own .tasks)) where
-    pub going-more : (r : Row) → start + j < 60 → RowFrom o n w k (task j) (Timely r) → Going o n w k own start code side entry (j + 1) (sets numbers (3 * (start + j)) (rowNumbers (Timely r)))
-    unfolding firstOf
-    going-more r h row =
+      second : length xs ≤ j → (1 ≤ task j .execution) × (task j .execution ≤ task j .deadline)
+      second l =
+          let r = q .rules (j - length xs) (omega arith) in
+          rw (in-second xs ys noTask j l) (r .execution, r .in-deadline)
+
+  abbrev oldCheck : ℕ → Verdict
+  oldCheck k = lateCheck 9 0 k (rowOf xs ys (getD xs k noTask))
+
+  abbrev newCheck : ℕ → Verdict
+  newCheck k = lateCheck 10 1 k (rowOf xs ys (getD ys k noTask))
+
+  checks-length : length (lateChecks xs ys) ≡ length xs + length ys
+  checks-length = rw (length-append, up-length oldCheck (length xs), up-length newCheck (length ys))
+
+  check-place : (j : ℕ) → j < length xs + length ys → getD (lateChecks xs ys) j Passed ≡ checkAt (length xs) j (rowOf xs ys (task j))
+  check-place j h = ⊎-elim second first (le-or-lt (length xs) j)
+    where
+      long : length (upTo oldCheck (length xs)) ≡ length xs
+      long = up-length oldCheck (length xs)
+
+      first : j < length xs → getD (lateChecks xs ys) j Passed ≡ checkAt (length xs) j (rowOf xs ys (task j))
+      first l =
+          rw (lt-ltb j (length xs) l, in-first xs ys noTask j l)
+          (in-first (upTo oldCheck (length xs)) (upTo newCheck (length ys)) Passed j (omega (arith, long)) ∙ up-at oldCheck (length xs) j Passed l)
+
+      second : length xs ≤ j → getD (lateChecks xs ys) j Passed ≡ checkAt (length xs) j (rowOf xs ys (task j))
+      second l =
+          rw (le-ltb j (length xs) l, in-second xs ys noTask j l)
+          (in-second (upTo oldCheck (length xs)) (upTo newCheck (length ys)) Passed j (omega (arith, long)) ∙ rw long (up-at newCheck (length ys) (j - length xs) Passed (omega arith)))
+
+  -- a timely task passes, a late one is refused
+  passes : (b : Bool) → cond b Passed Passed ≡ Passed
+  passes true = refl
+  passes false = refl
+
+  refuses : (b : Bool) (a c : Answer) (vs : List Verdict) → firstOf (cond b (Refused a) (Refused c) ∷ vs) ≡ cond b (Refused a) (Refused c)
+  unfolding firstOf
+  refuses true a c vs = refl
+  refuses false a c vs = refl
+
+  never : (b : Bool) (a c : Answer) → cond b (Refused a) (Refused c) ≡ Passed → ⊥
+  never true a c e = let z : _≡_ {A = ℕ} 0 1 = cc in absurd (omega arith)
+  never false a c e = let z : _≡_ {A = ℕ} 0 1 = cc in absurd (omega arith)
+
+  -- ---- one task after the other
+
+  pub going-first : (numbers : List ℕ) → Going xs ys 0 numbers
+  unfolding firstOf
+  going-first numbers = record { timely = refl; laid = refl }
+
+  module _ (j : ℕ) (numbers : List ℕ) (going : Going xs ys j numbers) (inside : j < length xs + length ys) where
+    pub going-more : (r : Row) → rowSize * j + rowSize ≤ length numbers → Timely r ≡ rowOf xs ys (task j) → Going xs ys (j + 1) (sets numbers (rowSize * j) (rowNumbers (Timely r)))
+    going-more r room row = record { timely = timely; laid = laid }
+      where
+        timely : firstOf (take (j + 1) (lateChecks xs ys)) ≡ Passed
+        timely =
+            rw (add-one, take-suc (lateChecks xs ys) j Passed (omega (arith, checks-length)))
+            (first-last (take j (lateChecks xs ys)) (getD (lateChecks xs ys) j Passed) Passed (going .timely) (check-place j inside ∙ rw (sym row) (passes (ltb j (length xs)))))
+
+        piece : take rowSize (drop (rowSize * j) (rowsOf xs ys)) ≡ rowNumbers (Timely r)
+        piece =
+            rw (append-nil (rowsOf xs ys)) at (flat-part (λ i. rowNumbers (rowOf xs ys i)) rowSize (λ i. row-width (rowOf xs ys i)) (xs ++ ys) [] j noTask (rw length-append (omega arith)))
+            ∙ ap rowNumbers (sym row)
+
+        laid : take (rowSize * (j + 1)) (sets numbers (rowSize * j) (rowNumbers (Timely r))) ≡ take (rowSize * (j + 1)) (rowsOf xs ys)
+        laid =
+            let e : rowSize * (j + 1) ≡ rowSize * j + rowSize = omega arith in
+            let m : length (take (rowSize * j) numbers ++ rowNumbers (Timely r)) ≡ rowSize * j + rowSize = rw (length-append, length-take-le (rowSize * j) numbers (omega arith)) in
+            rw (e, sets-eq (rowNumbers (Timely r)) numbers (rowSize * j) room, take-at (take (rowSize * j) numbers ++ rowNumbers (Timely r)) _ (rowSize * j + rowSize) m, take-add (rowSize * j) rowSize (rowsOf xs ys), piece, going .laid)
+
+    pub going-late : (d : ℕ) (exit : List ℕ) → Late d ≡ rowOf xs ys (task j) → Filled xs ys exit (checkAt (length xs) j (Late d))
+    going-late d exit row =
         record {
-          checks = λ xs ys t u a b. rw (add-one, checks-more xs ys (own .tasks) code side j, first-on (checksOf xs ys (own .tasks) code side j) (lateCheck code side j (rowOf xs ys (task j)) ∷ []) (going .checks xs ys t u a b), sym (row xs ys t u a b));
-          laid = λ xs ys t u a b front e f.
-              let m : length (front ++ numbersOf xs ys (own .tasks) j) ≡ 3 * (start + j) = rw length-append (omega (arith, numbers-length xs ys (own .tasks) j (omega arith))) in
-              rw (going .laid xs ys t u a b front e f, sym m, padded-sets (front ++ numbersOf xs ys (own .tasks) j) (rowNumbers (Timely r)) (omega arith), numbers-more xs ys (own .tasks) j inside, sym (row xs ys t u a b), append-assoc);
+          verdict = sym (ap firstOf (sym (take-append-drop j (lateChecks xs ys)))
+              ∙ first-on (take j (lateChecks xs ys)) (drop j (lateChecks xs ys)) (going .timely)
+              ∙ rw (drop-cons (lateChecks xs ys) j Passed (omega (arith, checks-length)), check-place j inside, sym row) (refuses (ltb j (length xs)) _ _ (drop (suc j) (lateChecks xs ys))));
+          rows = λ e. absurd (never (ltb j (length xs)) _ _ e);
         }
 
-    pub going-late : (d : ℕ) → j < own .count → RowFrom o n w k (task j) (Late d) → (exit : List ℕ) → Filled o n w k own start code side entry exit (Refused (answer code side j d))
-    unfolding firstOf
-    going-late d h row exit =
-        record {
-          verdict = λ xs ys t u a b.
-              let e : suc j + (own .count - suc j) ≡ own .count = omega arith in
-              let first : firstOf (checksOf xs ys (own .tasks) code side (suc j)) ≡ Refused (answer code side j d) = rw (checks-more xs ys (own .tasks) code side j, first-on (checksOf xs ys (own .tasks) code side j) (lateCheck code side j (rowOf xs ys (task j)) ∷ []) (going .checks xs ys t u a b), sym (row xs ys t u a b)) in
-              sym (rw e at (late-stays xs ys (own .tasks) code side (answer code side j d) (suc j) (own .count - suc j) first));
-          numbers = λ e. let z : _≡_ {A = ℕ} 0 1 = cc in absurd (omega arith);
-        }
-
-  pub going-end : (numbers : List ℕ) → Going o n w k own start code side entry (own .count) numbers → Filled o n w k own start code side entry numbers Passed
-  going-end numbers g = record { verdict = λ xs ys t u a b. sym (g .checks xs ys t u a b); numbers = λ e. g .laid }
+  pub going-end : (j : ℕ) (numbers : List ℕ) → j ≡ length xs + length ys → Going xs ys j numbers → Filled xs ys numbers Passed
+  going-end j numbers e g =
+      record {
+        verdict = sym (ap firstOf (sym (take-all j (lateChecks xs ys) (omega (arith, checks-length)))) ∙ g .timely);
+        rows = λ z. rw e at (g .laid ∙ take-all (rowSize * j) (rowsOf xs ys) (omega (arith, rows-length)));
+      }

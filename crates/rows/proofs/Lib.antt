@@ -1,5 +1,5 @@
 pub mod Bridge
-pub mod Found
 pub mod Laid
+pub mod Told
 pub mod Unique
 pub mod Windows

@@ -1,20 +1,22 @@
 -- Laws of the windows that the code works out of flat terms: where their searches may start, and how large they get.
-use Prim.Native.Nat.{ℕ, _+_, _*_, _-_, _≤_, _<_}
-use mathlib.Core.Path.{_≡_}
+use Prim.Native.Nat.{ℕ, zero, suc, _+_, _*_, _-_, _≤_, _<_}
+use mathlib.Core.Path.{_≡_, refl, sym}
 use mathlib.Core.List.{List}
 use mathlib.Core.Option.{some, none}
 use native.Mathlib.Omega.{arith}
-use borrow.Author.Tests.{lt-leb}
+use borrow.Author.Tests.{lt-leb, lt-ltb, le-ltb}
 use Rattle.base.specs.Search.{closes, windowOf}
-use Rattle.base.proofs.Search.{Climbs, climb-start, where-none, window-found, window-same}
-use Rattle.term.specs.Terms.{Ready, shareOf, after, newSum, flatDemand}
+use Rattle.base.proofs.Search.{Climbs, climb-start, climb-at, where-none, window-found, window-same}
+use Rattle.term.specs.Terms.{shareOf, after, newSum, flatDemand}
 use lib.ListN.{getD}
 use Rattle.term.proofs.Terms.{flat-least}
 use Rattle.window.specs.declared.Worst.{Worst}
 use Rattle.window.specs.declared.Swept.the-variants.{Over, LateAt}
-use Rattle.window.specs.Worst.{sweep}
+use Rattle.window.specs.Worst.{takeOf, nextOf, sweep}
 use Rattle.window.specs.Phases.{windowAt}
 use Rattle.window.proofs.Sweep.{IsWorst, IsLate, sweep-is}
+use Rattle.rows.specs.declared.Judged.the-variants.{Timely}
+use Rattle.rows.specs.Row.{row, completedRow}
 use Rattle.rows.specs.Flat.{flatSteady, flatRequest}
 use Rattle.base.specs.Sums.{sum}
 use Rattle.base.proofs.Sums.{sum-zero}
@@ -35,9 +37,6 @@ unfolding windowAt flatSteady flatDemand sum
 last-steady o n w k c limit =
     window-same (flatDemand o n w k c limit) (flatDemand o n o 0 c limit) limit
     (λ u h. let z : u - limit ≡ 0 = omega arith in rw z (omega (arith, nothing-new w k)))
-
-pub ready-none : (l : List ℕ) (n : ℕ) → Ready l n → Ready l 0
-ready-none l n r = record { room = r .room; few = omega arith; good = λ j h. absurd (omega arith) }
 
 pub flat-climbs : (o : List ℕ) (n : ℕ) (w : List ℕ) (k c x limit : ℕ) → 1 ≤ c → c ≤ limit → Climbs (flatDemand o n w k c x) limit c
 flat-climbs o n w k c x limit h l = climb-start (flatDemand o n w k c x) limit c h l (flat-least o n w k c x)
@@ -66,3 +65,24 @@ module _ (f : ℕ → ℕ → ℕ) (limit : ℕ) (first : 1 ≤ limit) where
   late-within x e =
       let k : IsLate (λ y. windowOf (f y) limit) limit x = rw e at (sweep-is f limit limit) in
       k .within
+
+-- ---- nothing above
+
+module _ (o w : List ℕ) (c limit : ℕ) (first : 1 ≤ c) (fits : c ≤ limit) where
+  alone : (x t : ℕ) → flatDemand o 0 w 0 c x t ≡ c
+  unfolding flatDemand sum
+  alone x t = omega arith
+
+  alone-window : (x : ℕ) → windowOf (flatDemand o 0 w 0 c x) limit ≡ some c
+  alone-window x =
+      climb-at (flatDemand o 0 w 0 c x) limit c c (climb-start (flatDemand o 0 w 0 c x) limit c first fits (λ u. omega (arith, alone x u))) (sym (alone x c)) refl
+
+  alone-sweep : (d : ℕ) → sweep (windowAt (flatDemand o 0 w 0 c) limit) (suc d) ≡ Over (record { window = c; phase = 1 })
+  unfolding sweep windowAt nextOf takeOf
+  alone-sweep zero = rw (alone-window 1, lt-ltb 0 c first)
+  alone-sweep (suc d) = rw (alone-sweep d, alone-window (suc (suc d)), le-ltb c c (omega arith))
+
+pub alone-row : (o w : List ℕ) (c d : ℕ) → 1 ≤ c → c ≤ d → completedRow (sweep (windowAt (flatDemand o 0 w 0 c) d) d) (flatSteady o 0 c d) ≡ Timely (row c 1 c)
+unfolding flatSteady
+alone-row o w c zero h l = absurd (omega arith)
+alone-row o w c (suc d) h l = rw (alone-sweep o w c (suc d) h l d, alone-window o o c (suc d) h l (suc d))

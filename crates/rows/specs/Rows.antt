@@ -1,17 +1,15 @@
 -- The rows of a pair in order, and which late task is named. Definitions only.
-use Prim.Native.Nat.{ℕ, _+_, _-_, _*_}
+use Prim.Native.Nat.{ℕ}
 use mathlib.Core.List.{List, [], _∷_, _++_, flatMap}
-use lib.ListN.{length, getD, replicate}
+use lib.ListN.{length, getD, drop}
 use Rattle.base.specs.Lists.{upTo}
 use Rattle.block.specs.declared.Task.{Task}
 use Rattle.block.specs.declared.Verdict.{Verdict}
 use Rattle.block.specs.declared.Verdict.the-variants.{Passed, Refused}
-use Rattle.block.specs.Format.{mostTasks}
 use Rattle.block.specs.Answers.{answer, firstOf}
 use Rattle.block.specs.Checks.{noTask}
 use Rattle.rows.specs.declared.Judged.{Judged}
 use Rattle.rows.specs.declared.Judged.the-variants.{Timely, Late}
-use Rattle.rows.specs.declared.Rows.{Rows}
 use Rattle.rows.specs.Row.{rowOf}
 
 -- three numbers a row
@@ -37,10 +35,7 @@ lateChecks olds news =
     upTo (λ k. lateCheck 9 0 k (rowOf olds news (getD olds k noTask))) (length olds)
     ++ upTo (λ k. lateCheck 10 1 k (rowOf olds news (getD news k noTask))) (length news)
 
--- the verdict on lateness, and the rows with zeros behind them; no row where a task is late
-abbrev pub rowsBy : Verdict → List ℕ → Rows
-rowsBy Passed l = record { verdict = Passed; numbers = l ++ replicate (rowSize * (mostTasks + mostTasks) - length l) 0 }
-rowsBy (Refused a) l = record { verdict = Refused a; numbers = replicate (rowSize * (mostTasks + mostTasks)) 0 }
-
-unfoldable pub rowsFound : List Task → List Task → Rows
-rowsFound olds news = rowsBy (firstOf (lateChecks olds news)) (rowsOf olds news)
+-- what a report then holds: the rows in front where every task is in time, else what it held
+abbrev pub reported : Verdict → List ℕ → List ℕ → List ℕ
+reported Passed rows report = rows ++ drop (length rows) report
+reported (Refused a) rows report = report

@@ -1,25 +1,29 @@
-// The row of each task of two tables, or the first late task.
+// The rows of a pair: the row of each task, or the first late one.
 ghost use mathlib.Core.Path.{_≡_};
 ghost use Prim.Native.Nat.{ℕ, _+_, _*_, _<_, _≤_, _-_, max};
 ghost use mathlib.Core.List.{List};
 ghost use lib.ListN.{length};
+ghost use Rattle.block.specs.Format.{blockSize, mostTasks};
+ghost use Rattle.block.specs.Answers.{firstOf};
+ghost use Rattle.block.specs.Block.{tasksIn};
 ghost use Rattle.term.specs.Terms.{Ready, flatDemand};
 ghost use Rattle.window.specs.Worst.{sweep};
 ghost use Rattle.window.specs.Phases.{closingOf, windowAt};
 ghost use Rattle.above.specs.Roll.{Rolled};
 ghost use Rattle.rows.specs.Flat.{flatSteady, flatRequest, RowFrom};
 ghost use Rattle.rows.specs.Row.{completedRow, abortedRow, row, newRow};
-ghost use Rattle.rows.specs.Rows.{rowNumbers, rowsFound};
-ghost use Rattle.rows.specs.Fill.{Timed, Filled};
-ghost use Rattle.window.specs.Sound.{Sound, heldBy};
+ghost use Rattle.rows.specs.Rows.{rowSize, rowNumbers, rowsOf, lateChecks, reported};
+ghost use Rattle.rows.specs.Fill.{Held, Told, taskAt, checkAt, Filled, Reported};
 ghost use lib.Seq.{sets};
-ghost use Rattle.rows.specs.declared.Judged.the-variants.{Timely};
+ghost use Rattle.rows.specs.declared.Judged.the-variants.{Timely, Late};
 use block::Answer;
-use block::Table;
 use block::Task;
 use block::Verdict;
 use window::Closing;
 use window::Swept;
+
+// Three numbers a row.
+pub const ROW_SIZE: usize = 3;
 
 pub struct Row {
     pub first: u32,
@@ -31,12 +35,6 @@ pub struct Row {
 pub enum Judged {
     Timely(Row),
     Late(u32),
-}
-
-// Whether every task is in time, and the rows, three numbers a task.
-pub struct Rows {
-    pub verdict: Verdict,
-    pub numbers: [u32; 180],
 }
 
 fn narrow(x: u64) -> u32
@@ -80,6 +78,10 @@ fn completed_row<'a>(old: &'a [u64], n: usize, new: &'a [u64], k: usize, c: u64,
     requires { ⌜ Ready (now old) n × Ready (now new) k × (1 ≤ c) × (c ≤ d) × (d < 65536) ⌝ }
     ensures { λ r. ⌜ r ≡ completedRow (sweep (windowAt (flatDemand (now (old .entry)) n (now (new .entry)) k c) d) d) (flatSteady (now (old .entry)) n c d) ⌝ }
 {
+    // with nothing above, every window is C
+    if n + k == 0 {
+        return timely(c, 1, c);
+    }
     let found = window::over_phases(old, n, new, k, c, d);
     let swept = found.swept;
     match swept {
@@ -133,9 +135,9 @@ fn completed(
     k: usize,
     i: Task,
 ) -> Judged
-    requires { ⌜ Rolled (now olds) n × Rolled (now news) k × (length (now before) ≡ 120) × (length (now after) ≡ 120) ⌝ }
+    requires { ⌜ Rolled (now olds) n × Rolled (now news) k × (4 * n ≤ length (now before)) × (4 * k ≤ length (now after)) ⌝ }
     requires { ⌜ (1 ≤ i .execution) × (i .execution ≤ i .deadline) × (i .kind ≡ 0) ⌝ }
-    ensures { λ r. ⌜ (length (now (before .exit)) ≡ 120) × (length (now (after .exit)) ≡ 120) × RowFrom (now (olds .entry)) n (now (news .entry)) k i r ⌝ }
+    ensures { λ r. ⌜ (length (now (before .exit)) ≡ length (now (before .entry))) × (length (now (after .exit)) ≡ length (now (after .entry))) × RowFrom (now (olds .entry)) n (now (news .entry)) k i r ⌝ }
 {
     let p = above::rank_of(i);
     let a = above::gather(before, olds, n, p, 3);
@@ -152,9 +154,9 @@ fn completed(
 
 // The row of an aborted task i.
 fn aborted(before: &mut [u64], olds: &[u64], n: usize, i: Task) -> Judged
-    requires { ⌜ Rolled (now olds) n × (length (now before) ≡ 120) ⌝ }
+    requires { ⌜ Rolled (now olds) n × (4 * n ≤ length (now before)) ⌝ }
     requires { ⌜ (1 ≤ i .execution) × (i .execution ≤ i .deadline) × (i .kind ≡ 1) ⌝ }
-    ensures { λ r. ⌜ (length (now (before .exit)) ≡ 120) × ((w : List ℕ) (k : ℕ) → RowFrom (now (olds .entry)) n w k i r) ⌝ }
+    ensures { λ r. ⌜ (length (now (before .exit)) ≡ length (now (before .entry))) × ((w : List ℕ) (k : ℕ) → RowFrom (now (olds .entry)) n w k i r) ⌝ }
 {
     let a = above::gather(before, olds, n, above::rank_of(i), 4);
     aborted_row(before, a, base::wider(i.execution), base::wider(i.deadline))
@@ -170,9 +172,9 @@ fn entering(
     k: usize,
     i: Task,
 ) -> Judged
-    requires { ⌜ Rolled (now olds) n × Rolled (now news) k × (length (now before) ≡ 120) × (length (now after) ≡ 120) ⌝ }
+    requires { ⌜ Rolled (now olds) n × Rolled (now news) k × (4 * k ≤ length (now before)) × (4 * k ≤ length (now after)) ⌝ }
     requires { ⌜ (1 ≤ i .execution) × (i .execution ≤ i .deadline) × (2 ≤ i .kind) ⌝ }
-    ensures { λ r. ⌜ (length (now (before .exit)) ≡ 120) × (length (now (after .exit)) ≡ 120) × RowFrom (now (olds .entry)) n (now (news .entry)) k i r ⌝ }
+    ensures { λ r. ⌜ (length (now (before .exit)) ≡ length (now (before .entry))) × (length (now (after .exit)) ≡ length (now (after .entry))) × RowFrom (now (olds .entry)) n (now (news .entry)) k i r ⌝ }
 {
     let p = above::rank_of(i);
     let left = above::left(olds, n, p);
@@ -191,9 +193,9 @@ fn row_of(
     k: usize,
     i: Task,
 ) -> Judged
-    requires { ⌜ Rolled (now olds) n × Rolled (now news) k × (length (now before) ≡ 120) × (length (now after) ≡ 120) ⌝ }
+    requires { ⌜ Rolled (now olds) n × Rolled (now news) k × (4 * n ≤ length (now before)) × (4 * k ≤ length (now before)) × (4 * k ≤ length (now after)) ⌝ }
     requires { ⌜ (1 ≤ i .execution) × (i .execution ≤ i .deadline) ⌝ }
-    ensures { λ r. ⌜ (length (now (before .exit)) ≡ 120) × (length (now (after .exit)) ≡ 120) × RowFrom (now (olds .entry)) n (now (news .entry)) k i r ⌝ }
+    ensures { λ r. ⌜ (length (now (before .exit)) ≡ length (now (before .entry))) × (length (now (after .exit)) ≡ length (now (after .entry))) × RowFrom (now (olds .entry)) n (now (news .entry)) k i r ⌝ }
 {
     if i.kind == 0 {
         return completed(before, after, olds, n, news, k, i);
@@ -221,7 +223,39 @@ fn put_row(numbers: &mut [u32], at: usize, r: Row)
     numbers[at + 2] = r.third;
 }
 
-// The rows of one table's tasks, written from row `start` on, or the first late one of them.
+// The task at place j of a pair, the n old ones first.
+fn task_at(old: &[u8], n: usize, new: &[u8], j: usize) -> Task
+    requires { ⌜ (length (now old) ≡ blockSize) × (length (now new) ≡ blockSize) × (n ≤ mostTasks) × (j < n + mostTasks) ⌝ }
+    ensures { λ r. ⌜ r ≡ taskAt (now (old .entry)) n (now (new .entry)) j ⌝ }
+{
+    if j < n {
+        return records::task_at(old, j);
+    }
+    records::task_at(new, j - n)
+}
+
+// The refusal of the task at place j, which is late by the detail d.
+fn late(n: usize, j: usize, d: u32) -> Verdict
+    requires { ⌜ j < 4294967296 ⌝ }
+    ensures { λ r. ⌜ r ≡ checkAt n j (Late d) ⌝ }
+{
+    if j < n {
+        return Verdict::Refused(Answer {
+            code: 9,
+            side: 0,
+            record: place(j),
+            detail: d,
+        });
+    }
+    Verdict::Refused(Answer {
+        code: 10,
+        side: 1,
+        record: place(j - n),
+        detail: d,
+    })
+}
+
+// The rows of a pair, put to the front of the numbers, or the first late task.
 fn fill(
     numbers: &mut [u32],
     before: &mut [u64],
@@ -230,30 +264,23 @@ fn fill(
     n: usize,
     news: &[u64],
     k: usize,
-    own: Table,
-    start: usize,
-    code: u32,
-    side: u32,
+    old: &[u8],
+    new: &[u8],
 ) -> Verdict
-    requires { ⌜ Rolled (now olds) n × Rolled (now news) k × (length (now before) ≡ 120) × (length (now after) ≡ 120) ⌝ }
-    requires { ⌜ Timed own × (start + own .count ≤ 60) × (length (now numbers) ≡ 180) ⌝ }
-    ensures { λ r. ⌜ (length (now (before .exit)) ≡ 120) × (length (now (after .exit)) ≡ 120) × (length (now (numbers .exit)) ≡ 180) × Filled (now (olds .entry)) n (now (news .entry)) k own start code side (now (numbers .entry)) (now (numbers .exit)) r ⌝ }
+    requires { ⌜ Told 0 (now old) n (now olds) × Told 1 (now new) k (now news) ⌝ }
+    requires { ⌜ (4 * n ≤ length (now before)) × (4 * k ≤ length (now before)) × (4 * k ≤ length (now after)) × (rowSize * (n + k) ≤ length (now numbers)) ⌝ }
+    ensures { λ r. ⌜ (length (now (numbers .exit)) ≡ length (now (numbers .entry))) × Filled (tasksIn (now (old .entry)) n) (tasksIn (now (new .entry)) k) (now (numbers .exit)) r ⌝ }
 {
-    let m = own.count;
+    let m = n + k;
     let mut j: usize = 0;
     while j < m {
-        let i = own.tasks[j];
+        let i = task_at(old, n, new, j);
         match row_of(before, after, olds, n, news, k, i) {
             Judged::Timely(r) => {
-                put_row(numbers, 3 * (start + j), r);
+                put_row(numbers, ROW_SIZE * j, r);
             }
             Judged::Late(d) => {
-                return Verdict::Refused(Answer {
-                    code: code,
-                    side: side,
-                    record: place(j),
-                    detail: d,
-                });
+                return late(n, j, d);
             }
         }
         j += 1;
@@ -261,60 +288,94 @@ fn fill(
     Verdict::Passed
 }
 
-// The rows of both tables, or the first late task.
-pub fn rows_of(olds: Table, news: Table) -> Rows
-    requires { ⌜ Sound 0 olds × Sound 1 news ⌝ }
-    ensures { λ r. ⌜ r ≡ rowsFound (heldBy olds) (heldBy news) ⌝ }
+// The rows of a pair, given its rolls and room to work in: put to the front of the report, or the first late task.
+fn judge(
+    numbers: &mut [u32],
+    before: &mut [u64],
+    after: &mut [u64],
+    olds: &[u64],
+    n: usize,
+    news: &[u64],
+    k: usize,
+    old: &[u8],
+    new: &[u8],
+    report: &mut [u32],
+) -> Verdict
+    requires { ⌜ Told 0 (now old) n (now olds) × Told 1 (now new) k (now news) ⌝ }
+    requires { ⌜ (4 * n ≤ length (now before)) × (4 * k ≤ length (now before)) × (4 * k ≤ length (now after)) × (rowSize * (n + k) ≤ length (now numbers)) × (rowSize * (n + k) ≤ length (now report)) ⌝ }
+    ensures { λ r. ⌜ Reported (now (old .entry)) n (now (new .entry)) k (now (report .entry)) (now (report .exit)) r ⌝ }
 {
-    let mut old_roll = [0u64; 180];
-    let mut new_roll = [0u64; 180];
-    let mut before = [0u64; 120];
-    let mut after = [0u64; 120];
-    let mut numbers = [0u32; 180];
-    let n = olds.count;
-    let k = news.count;
-    above::roll(&mut old_roll, olds);
-    above::roll(&mut new_roll, news);
-    match fill(
+    match fill(numbers, before, after, olds, n, news, k, old, new) {
+        Verdict::Refused(a) => Verdict::Refused(a),
+        Verdict::Passed => {
+            let size = ROW_SIZE * (n + k);
+            base::copy_numbers(report, &numbers[0..size]);
+            Verdict::Passed
+        }
+    }
+}
+
+// For pairs of at most three tasks a side: rolled straight from the records, in little room, so that little is cleared.
+fn few(old: &[u8], n: usize, new: &[u8], k: usize, report: &mut [u32]) -> Verdict
+    requires { ⌜ Held 0 (now old) n × Held 1 (now new) k × (n ≤ 3) × (k ≤ 3) × (rowSize * (n + k) ≤ length (now report)) ⌝ }
+    ensures { λ r. ⌜ Reported (now (old .entry)) n (now (new .entry)) k (now (report .entry)) (now (report .exit)) r ⌝ }
+{
+    let mut olds = [0u64; 18];
+    let mut news = [0u64; 18];
+    let mut before = [0u64; 12];
+    let mut after = [0u64; 12];
+    let mut numbers = [0u32; 18];
+    above::roll_records(&mut olds, old, n);
+    above::roll_records(&mut news, new, k);
+    judge(
         &mut numbers,
         &mut before,
         &mut after,
-        &old_roll,
+        &olds,
         n,
-        &new_roll,
+        &news,
         k,
-        olds,
-        0,
-        9,
-        0,
-    ) {
-        Verdict::Refused(a) => Rows {
-            verdict: Verdict::Refused(a),
-            numbers: [0u32; 180],
-        },
-        Verdict::Passed => {
-            match fill(
-                &mut numbers,
-                &mut before,
-                &mut after,
-                &old_roll,
-                n,
-                &new_roll,
-                k,
-                news,
-                n,
-                10,
-                1,
-            ) {
-                Verdict::Refused(a) => Rows {
-                    verdict: Verdict::Refused(a),
-                    numbers: [0u32; 180],
-                },
-                Verdict::Passed => Rows {
-                    verdict: Verdict::Passed,
-                    numbers: numbers,
-                },
-            }
+        old,
+        new,
+        report,
+    )
+}
+
+// For every other pair: rolled from its tables.
+fn many(old: &[u8], n: usize, new: &[u8], k: usize, report: &mut [u32]) -> Verdict
+    requires { ⌜ Held 0 (now old) n × Held 1 (now new) k × (rowSize * (n + k) ≤ length (now report)) ⌝ }
+    ensures { λ r. ⌜ Reported (now (old .entry)) n (now (new .entry)) k (now (report .entry)) (now (report .exit)) r ⌝ }
+{
+    let mut olds = [0u64; 180];
+    let mut news = [0u64; 180];
+    let mut before = [0u64; 120];
+    let mut after = [0u64; 120];
+    let mut numbers = [0u32; 180];
+    above::roll(&mut olds, tasks::table_of(old, n));
+    above::roll(&mut news, tasks::table_of(new, k));
+    judge(
+        &mut numbers,
+        &mut before,
+        &mut after,
+        &olds,
+        n,
+        &news,
+        k,
+        old,
+        new,
+        report,
+    )
+}
+
+// The rows of the first n records of an old block and the first k of a new one, put to the front of the report, or the first late task.
+pub fn rows_of(old: &[u8], n: usize, new: &[u8], k: usize, report: &mut [u32]) -> Verdict
+    requires { ⌜ Held 0 (now old) n × Held 1 (now new) k × (rowSize * (n + k) ≤ length (now report)) ⌝ }
+    ensures { λ r. ⌜ (r ≡ firstOf (lateChecks (tasksIn (now (old .entry)) n) (tasksIn (now (new .entry)) k))) × (now (report .exit) ≡ reported r (rowsOf (tasksIn (now (old .entry)) n) (tasksIn (now (new .entry)) k)) (now (report .entry))) ⌝ }
+{
+    if n <= 3 {
+        if k <= 3 {
+            return few(old, n, new, k, report);
         }
     }
+    many(old, n, new, k, report)
 }

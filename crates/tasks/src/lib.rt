@@ -5,9 +5,7 @@ ghost use Prim.Native.Nat.{_≤_, _*_};
 ghost use lib.ListN.{length, drop};
 ghost use Rattle.block.specs.Format.{blockSize, mostTasks, listSize};
 ghost use Rattle.block.specs.Block.{tasksIn, listOf, tableOf};
-use block::HEAD_SIZE;
 use block::LIST_SIZE;
-use block::RECORD_SIZE;
 use block::Table;
 use block::Task;
 
@@ -38,8 +36,7 @@ pub fn table_of(block: &[u8], n: usize) -> Table
     table.count = n;
     let mut k: usize = 0;
     while k < n {
-        let at = HEAD_SIZE + RECORD_SIZE * k;
-        table.tasks[k] = records::record_at(&block[at..at + RECORD_SIZE]);
+        table.tasks[k] = records::task_at(block, k);
         k += 1;
     }
     table
@@ -52,8 +49,7 @@ pub fn put_tasks(block: &[u8], n: usize, list: &mut [u32])
 {
     let mut k: usize = 0;
     while k < n {
-        let from = HEAD_SIZE + RECORD_SIZE * k;
-        let task = records::record_at(&block[from..from + RECORD_SIZE]);
+        let task = records::task_at(block, k);
         let at = LIST_SIZE * k;
         numbers::put_numbers(&mut list[at..at + LIST_SIZE], task);
         k += 1;

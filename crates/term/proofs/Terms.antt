@@ -18,6 +18,10 @@ use Rattle.base.proofs.Search.{le-or-lt}
 use Rattle.base.proofs.Flat.{jobs-flat, cut-flat}
 use Rattle.term.specs.Terms.{Ready, shareOf, before, after, oldSum, newSum, flatDemand, growsBy, nextOf, nextPhase, prevOf, prevPhase}
 
+-- the first terms of a list that is ready are ready
+pub ready-less : (l : List ℕ) (j n : ℕ) → j ≤ n → Ready l n → Ready l j
+ready-less l j n h r = record { room = omega (arith, r .room); few = omega (arith, r .few); good = λ i k. r .good i (omega arith) }
+
 pub sum-more : (f : ℕ → ℕ) (n : ℕ) → sum (n + 1) f ≡ sum n f + f n
 unfolding sum
 sum-more f n = rw add-one
@@ -70,7 +74,7 @@ pub phase-still : (l : List ℕ) (n x limit : ℕ) → Ready l n → x ≤ limit
 unfolding nextPhase sum shareOf
 phase-still l zero x limit r h = record { later = omega arith; still = λ y a b. omega arith }
 phase-still l (suc n) x limit r h =
-    let m = phase-still l n x limit (record { room = r .room; few = omega (arith, r .few); good = λ j g. r .good j (omega arith) }) h in
+    let m = phase-still l n x limit (ready-less l n (suc n) (omega arith) r) h in
     let k = last in
     record { later = omega (arith, m .later, k .later); still = λ y a b. omega (arith, m .still y a (omega arith), k .still y a (omega arith)) }
   where
@@ -133,7 +137,7 @@ pub phase-level : (l : List ℕ) (n m : ℕ) → Ready l n → Level (oldSum l n
 unfolding prevPhase sum shareOf
 phase-level l zero m r = record { within = omega arith; level = λ z y a b d. omega arith }
 phase-level l (suc n) m r =
-    let a = phase-level l n m (record { room = r .room; few = omega (arith, r .few); good = λ j g. r .good j (omega arith) }) in
+    let a = phase-level l n m (ready-less l n (suc n) (omega arith) r) in
     let b = last in
     record { within = omega (arith, a .within, b .within); level = λ z y h g d. omega (arith, a .level z y (omega arith) g d, b .level z y (omega arith) g d) }
   where
@@ -143,7 +147,7 @@ phase-level l (suc n) m r =
 -- once it is m + 1 it stays so
 pub phase-stays : (l : List ℕ) (n m j : ℕ) → j ≤ n → Ready l n → m < prevPhase l j m → prevPhase l j m ≡ prevPhase l n m
 unfolding prevPhase
-phase-stays l n m j h r g = omega (arith, up n h, phase-level l n m r .within, phase-level l j m (record { room = r .room; few = omega (arith, r .few); good = λ i k. r .good i (omega arith) }) .within)
+phase-stays l n m j h r g = omega (arith, up n h, phase-level l n m r .within, phase-level l j m (ready-less l j n h r) .within)
   where
     up : (n : ℕ) → j ≤ n → prevPhase l j m ≤ prevPhase l n m
     up zero h = let e : j ≡ 0 = omega arith in rw e (omega arith)

@@ -18,7 +18,7 @@ pub record Good (recip T C : ℕ) : Type 0 where
 
 -- a list whose first n terms are good
 pub record Ready (l : List ℕ) (n : ℕ) : Type 0 where
-  pub room : length l ≡ 120
+  pub room : 4 * n ≤ length l
   pub few : n ≤ 30
   pub good : (j : ℕ) → j < n → Good (getD l (4 * j) 0) (getD l (4 * j + 1) 0) (getD l (4 * j + 2) 0)
 

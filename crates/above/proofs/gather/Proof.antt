@@ -11,7 +11,7 @@ use Rattle.above.proofs.gather.Statement.{statement}
 use Rattle.above.proofs.gather.Tie as tie
 
 abbrev Inv-loop : tie.InvT-loop
-Inv-loop nums₀ rolls n p which count₀ j₀ nums count j = (j ≤ n) × (nums ≡ termsAbove rolls p which nums₀ j) × (count ≡ countAbove rolls p j) × (count ≤ j) × (length nums ≡ 120)
+Inv-loop nums₀ rolls n p which count₀ j₀ nums count j = (j ≤ n) × (nums ≡ termsAbove rolls p which nums₀ j) × (count ≡ countAbove rolls p j) × (count ≤ j) × (length nums ≡ length nums₀)
 
 abbrev μ-loop : tie.MeasureT-loop
 μ-loop nums₀ rolls n p which count₀ j₀ nums count j = n - j
@@ -19,7 +19,7 @@ abbrev μ-loop : tie.MeasureT-loop
 loop-holds : tie.Need-loop-holds Inv-loop μ-loop
 unfolding termsAbove countAbove sum
 loop-holds c =
-    (search needs, refl, refl, search needs, c .before .before .pre .1)
+    (search needs, refl, refl, search needs, refl)
 
 mul-at : tie.Need-mul-at Inv-loop μ-loop
 mul-at c = search needs
@@ -97,11 +97,11 @@ loop-again c =
     let o = one-le (isAbove (a .rolls .now) (a .p) (l .j)) in
     let terms : c .before .before .before .before .put .last .0 ≡ termsAbove (a .rolls .now) (a .p) (a .which) (a .nums .now) (l .j + 1) =
     rw (add-one, e, l .inv .2, ← l .inv .1) in
-    (search needs, terms, omega (arith, c .counts .ensures), omega (arith, c .counts .ensures), ap length terms ∙ terms-length (a .rolls .now) (a .p) (a .which) (a .nums .now) (l .j + 1) ∙ c .before .before .before .before .before .before .before .before .before .before .before .before .before .before .pre .1)
+    (search needs, terms, omega (arith, c .counts .ensures), omega (arith, c .counts .ensures), ap length terms ∙ terms-length (a .rolls .now) (a .p) (a .which) (a .nums .now) (l .j + 1))
 
 same-length : tie.Need-same-length Inv-loop μ-loop
 same-length c =
-    c .before .loop .inv .4 ∙ sym (c .before .before .before .before .pre .1)
+    c .before .loop .inv .4
 
 returns : tie.Need-returns Inv-loop μ-loop
 returns c =

@@ -1,12 +1,11 @@
 use borrow.Author.Needs.{needs}
 use native.Mathlib.Omega.{arith}
 use Prim.Native.Nat.{_≤_, _-_}
-use mathlib.Core.Path.{_≡_, refl, sym, _∙_}
-use native.Mathlib.Numerals.{add-one}
-use lib.ListN.{getD}
+use mathlib.Core.Path.{_≡_, refl, ap, _∙_}
+use lib.ListN.{length, getD}
 use Rattle.block.specs.Checks.{noTask}
 use Rattle.above.specs.Roll.{rollOf, Rolled}
-use Rattle.above.proofs.Above.{rolled-more}
+use Rattle.above.proofs.Above.{roll-length, rolled-none, roll-room, roll-more}
 use Rattle.above.proofs.roll.Statement.{statement}
 use Rattle.above.proofs.roll.Tie as tie
 
@@ -19,7 +18,7 @@ abbrev μ-loop : tie.MeasureT-loop
 loop-holds : tie.Need-loop-holds Inv-loop μ-loop
 unfolding rollOf
 loop-holds c =
-    (search needs, refl, refl, record { room = c .before .pre .1; few = omega arith; good = λ j h. absurd (omega arith) })
+    (search needs, refl, refl, rolled-none (c .before .args .nums .now))
 
 mul-x : tie.Need-mul-x Inv-loop μ-loop
 mul-x c = search needs
@@ -32,7 +31,10 @@ mul-enter c = search needs
 
 enter-requires : tie.Need-enter-requires Inv-loop μ-loop
 enter-requires c κs =
-    (omega (arith, c .before .before .before .loop .inv .3 .room, c .before .before .before .before .before .pre .0 .few), c .before .before .before .before .before .pre .0 .periods (c .before .before .before .loop .j) (omega arith))
+    let l = c .before .before .before .loop in
+    let a = c .before .before .before .before .before .args in
+    let q = c .before .before .before .before .before .pre in
+    (omega (arith, roll-room (a .nums .now) (a .t2 .tasks) (a .t2 .count) (q .1) (q .2) (l .j) (l .nums) (l .inv .2) (l .inv .3) (omega arith)), q .1 .periods (l .j) (omega arith))
 
 add-j : tie.Need-add-j Inv-loop μ-loop
 add-j c = search needs
@@ -41,17 +43,17 @@ loop-less : tie.Need-loop-less Inv-loop μ-loop
 loop-less c = search needs
 
 loop-again : tie.Need-loop-again Inv-loop μ-loop
-unfolding rollOf
 loop-again c =
     let l = c .before .before .before .before .before .before .loop in
     let a = c .before .before .before .before .before .before .before .before .args in
-    let q = c .before .before .before .before .before .before .before .before .pre .0 in
+    let q = c .before .before .before .before .before .before .before .before .pre in
     let e = c .before .before .enter .ensures in
-    (search needs, refl, rw (add-one, e .0, ← l .inv .2), rw (e .0) (rolled-more (l .nums) (l .j) (getD (a .t2 .tasks) (l .j) noTask) (l .inv .3) (omega (arith, q .few)) (q .periods (l .j) (omega arith)) (e .1) (e .2)))
+    let r = roll-more (a .nums .now) (a .t2 .tasks) (a .t2 .count) (q .1) (q .2) (l .j) (l .nums) (l .inv .2) (l .inv .3) (omega arith) (getD (a .t2 .tasks) (l .j) noTask) _ refl (e .0) (e .1) (e .2) in
+    (search needs, refl, r .0, r .1)
 
 same-length : tie.Need-same-length Inv-loop μ-loop
 same-length c =
-    c .before .loop .inv .3 .room ∙ sym (c .before .before .before .pre .1)
+    ap length (c .before .loop .inv .2) ∙ roll-length (c .before .before .before .args .nums .now) (c .before .before .before .args .t2 .tasks) (c .before .loop .j)
 
 returns : tie.Need-returns Inv-loop μ-loop
 returns c =

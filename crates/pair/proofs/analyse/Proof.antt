@@ -1,7 +1,7 @@
 use Rattle.block.specs.declared.Verdict.the-variants.{Passed}
 use Rattle.block.specs.Block.{blockVerdict}
 use Rattle.block.proofs.Reading.{block-length, block-count}
-use Rattle.pair.proofs.Exits.{parts, verdict-spoilt, verdict-holds, verdict-none, table-held, table-sound, pair-none, analyse-old, analyse-new, analyse-pair}
+use Rattle.pair.proofs.Exits.{parts, verdict-spoilt, verdict-holds, verdict-none, block-holds, block-held, pair-none, analyse-old, analyse-new, analyse-pair}
 use mathlib.Core.Path.{_≡_, refl, sym, _∙_}
 use native.Mathlib.Omega.{arith}
 use borrow.Author.Needs.{needs}
@@ -69,17 +69,9 @@ returns-3 c =
     (verdict-none 1 _ (new-passed (c .before .before .before .before .before .before)) (omega (arith, c .before .before .count2 .ensures)))
     ∙ pair-none _) (c .plain .ensures) refl
 
-table-of-requires : tie.Need-table-of-requires
-table-of-requires c κs =
-    (block-length _ _ (old-passed (c .before .before .before .before .before .before .before .before)), omega (arith, c .before .before .before .count .ensures, block-count _ _ (old-passed (c .before .before .before .before .before .before .before .before))))
-
-table-of-requires-2 : tie.Need-table-of-requires-2
-table-of-requires-2 c κs =
-    (block-length _ _ (new-passed (c .before .before .before .before .before .before)), omega (arith, c .before .before .count2 .ensures, block-count _ _ (new-passed (c .before .before .before .before .before .before))))
-
 settle-requires : tie.Need-settle-requires
 settle-requires c κs =
-    (table-sound 0 _ (old-passed (c .before .before .before .before .before .before .before .before .before .before .before)) _ _ (c .before .before .before .before .before .before .count .ensures) (c .before .before .table-of .ensures), table-sound 1 _ (new-passed (c .before .before .before .before .before .before .before .before)) _ _ (c .before .before .before .before .count2 .ensures) (c .before .table-of2 .ensures))
+    (block-held 0 _ (old-passed (c .before .before .before .before .before .before .before .before .before)) _ (c .before .before .before .before .count .ensures), block-held 1 _ (new-passed (c .before .before .before .before .before .before)) _ (c .before .before .count2 .ensures))
 
 same-length : tie.Need-same-length
 same-length c = search needs
@@ -88,8 +80,8 @@ returns-4 : tie.Need-returns-4
 returns-4 c =
     parts _ _
     (analyse-pair _ _ _ _ _ _ _
-    (table-held 0 _ (old-passed (c .before .before .before .before .before .before .before .before .before .before .before .before .before .before)) _ _ (c .before .before .before .before .before .before .before .before .before .count .ensures) (c .before .before .before .before .before .table-of .ensures))
-    (table-held 1 _ (new-passed (c .before .before .before .before .before .before .before .before .before .before .before)) _ _ (c .before .before .before .before .before .before .before .count2 .ensures) (c .before .before .before .before .table-of2 .ensures))) (c .before .before .settle .ensures .0) (c .before .before .settle .ensures .1)
+    (block-holds 0 _ (old-passed (c .before .before .before .before .before .before .before .before .before .before .before .before)) _ (c .before .before .before .before .before .before .before .count .ensures))
+    (block-holds 1 _ (new-passed (c .before .before .before .before .before .before .before .before .before)) _ (c .before .before .before .before .before .count2 .ensures))) (c .before .before .settle .ensures .0) (c .before .before .settle .ensures .1)
 
 pub analyse-spec : {M : Type 1} → statement M
 analyse-spec =
@@ -110,8 +102,6 @@ analyse-spec =
     add-if1
     plain-requires
     returns-3
-    table-of-requires
-    table-of-requires-2
     settle-requires
     same-length
     returns-4)

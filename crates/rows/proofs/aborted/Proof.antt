@@ -24,7 +24,7 @@ aborted-row-requires c κs =
     let a = c .before .before .before .before .before .before .before .before .before .before .args in
     let g = c .before .before .before .before .before .gather .ensures in
     let q = c .before .before .before .before .before .before .before .before .before .before .pre in
-    (rw (g .0, g .1) (terms-ready (a .olds .now) _ 4 (a .before .now) (q .0 .1) (a .n) (q .0 .0)), omega (arith, c .before .wider .ensures), omega (arith, c .before .wider .ensures, c .wider2 .ensures), omega (arith, c .wider2 .ensures))
+    (rw (g .0, g .1) (terms-ready (a .olds .now) _ 4 (a .before .now) (a .n) (q .0 .0) (q .0 .1)), omega (arith, c .before .wider .ensures), omega (arith, c .before .wider .ensures, c .wider2 .ensures), omega (arith, c .wider2 .ensures))
 
 same-length : tie.Need-same-length
 same-length c = search needs
@@ -34,7 +34,7 @@ returns c =
     let a = c .before .before .before .before .before .before .before .before .before .before .before .args in
     let g = c .before .before .before .before .before .before .gather .ensures in
     let q = c .before .before .before .before .before .before .before .before .before .before .before .pre in
-    let len = ap length (g .0) ∙ (terms-length (a .olds .now) _ 4 (a .before .now) (a .n) ∙ q .0 .1) in
+    let len = ap length (g .0) ∙ terms-length (a .olds .now) _ 4 (a .before .now) (a .n) in
     let r = rw (c .before .before .wider .ensures .0, c .before .wider2 .ensures .0, g .0, g .1, c .before .before .before .before .before .before .before .rank-of .ensures) at (c .aborted-row .ensures) in
     (len, λ w k xs ys t u o e. r ∙ aborted-is (a .i) (q .1 .0) (a .olds .now) (a .n) xs t (q .0 .0) o (a .before .now) (q .0 .1) ys (q .1 .2))
 

@@ -8,7 +8,7 @@ use Rattle.window.specs.declared.Course.{Course}
 use Rattle.window.specs.Worst.{sweep}
 use Rattle.window.specs.Phases.{closingOf, courseOf}
 use Rattle.window.proofs.Phases.{closing-at, closing-late}
-use Rattle.rows.proofs.Windows.{last-steady, steady-within, worst-within, late-within}
+use Rattle.rows.proofs.Windows.{alone-row, last-steady, steady-within, worst-within, late-within}
 use Rattle.rows.proofs.completed_row.Statement.{statement}
 use Rattle.rows.proofs.completed_row.Tie as tie
 
@@ -21,6 +21,20 @@ module _ (r : Course) (g : ℕ → Option ℕ) (d : ℕ) (e : r ≡ courseOf g d
   unfolding courseOf
   last-is = sym (ap (λ (c : Course). c .last) e)
 
+add-if1 : tie.Need-add-if1
+add-if1 c =
+    omega (arith, c .before .before .pre .0 .few, c .before .before .pre .1 .few)
+
+timely-requires : tie.Need-timely-requires
+timely-requires c κs = search needs
+
+returns : tie.Need-returns
+returns c =
+    let a = c .before .before .before .before .args in
+    let z : a .n ≡ 0 = omega (arith, c .before .if1 .taken) in
+    let y : a .k ≡ 0 = omega (arith, c .before .if1 .taken) in
+    c .timely .ensures ∙ sym (rw (z, y) (alone-row (a .old .now) (a .new .now) (a .c) (a .d) (c .before .before .before .before .pre .2) (c .before .before .before .before .pre .3)))
+
 over-phases-requires : tie.Need-over-phases-requires
 over-phases-requires c κs = search needs
 
@@ -30,9 +44,9 @@ enum-known-swept c = search needs
 enum-known-last : tie.Need-enum-known-last
 enum-known-last c = search needs
 
-timely-requires : tie.Need-timely-requires
-timely-requires c κs =
-    let a = c .before .before .before .before .before .before .before .before .before .args in
+timely-requires-2 : tie.Need-timely-requires-2
+timely-requires-2 c κs =
+    let a = c .before .before .before .before .before .before .before .before .before .before .args in
     let e = sym (last-steady (a .old .now) (a .n) (a .new .now) (a .k) (a .c) (a .d)) ∙ closing-at _ _ (last-is _ _ _ (c .before .before .before .before .before .before .over-phases .ensures) ∙ c .before .last .given .1) in
     let l = steady-within (a .old .now) (a .n) (a .c) (a .d) _ e in
     let i = swept-is _ _ _ (c .before .before .before .before .before .before .over-phases .ensures) ∙ c .before .before .before .before .swept .given .1 in
@@ -42,9 +56,9 @@ timely-requires c κs =
 enum-told : tie.Need-enum-told
 enum-told c = search needs
 
-timely-requires-2 : tie.Need-timely-requires-2
-timely-requires-2 c κs =
-    let a = c .before .before .before .before .before .before .before .before .args in
+timely-requires-3 : tie.Need-timely-requires-3
+timely-requires-3 c κs =
+    let a = c .before .before .before .before .before .before .before .before .before .args in
     let i = swept-is _ _ _ (c .before .before .before .before .before .over-phases .ensures) ∙ c .before .before .before .swept .given .1 in
     let w = worst-within (flatDemand (a .old .now) (a .n) (a .new .now) (a .k) (a .c)) (a .d) (omega arith) _ i in
     (omega arith, omega arith, omega arith)
@@ -54,27 +68,27 @@ enum-known-swept-2 c = search needs
 
 narrow-requires : tie.Need-narrow-requires
 narrow-requires c κs =
-    let a = c .before .before .before .before .before .before .args in
+    let a = c .before .before .before .before .before .before .before .args in
     let i = swept-is _ _ _ (c .before .before .before .over-phases .ensures) ∙ c .before .swept2 .given .1 in
     let w = late-within (flatDemand (a .old .now) (a .n) (a .new .now) (a .k) (a .c)) (a .d) (omega arith) _ i in
     omega arith
 
-returns : tie.Need-returns
-returns c =
-    let a = c .before .before .before .before .before .before .before .before .before .before .args in
-    let e = sym (last-steady (a .old .now) (a .n) (a .new .now) (a .k) (a .c) (a .d)) ∙ closing-at _ _ (last-is _ _ _ (c .before .before .before .before .before .before .before .over-phases .ensures) ∙ c .before .before .last .given .1) in
-    let i = swept-is _ _ _ (c .before .before .before .before .before .before .before .over-phases .ensures) ∙ c .before .before .before .before .before .swept .given .1 in
-    rw (i, e) (c .timely .ensures)
-
 returns-2 : tie.Need-returns-2
 returns-2 c =
-    let a = c .before .before .before .before .before .before .before .before .before .args in
-    let e = sym (last-steady (a .old .now) (a .n) (a .new .now) (a .k) (a .c) (a .d)) ∙ closing-late _ (last-is _ _ _ (c .before .before .before .before .before .before .over-phases .ensures) ∙ c .before .enum-told .given .1) in
-    let i = swept-is _ _ _ (c .before .before .before .before .before .before .over-phases .ensures) ∙ c .before .before .before .before .swept .given .1 in
+    let a = c .before .before .before .before .before .before .before .before .before .before .before .args in
+    let e = sym (last-steady (a .old .now) (a .n) (a .new .now) (a .k) (a .c) (a .d)) ∙ closing-at _ _ (last-is _ _ _ (c .before .before .before .before .before .before .before .over-phases .ensures) ∙ c .before .before .last .given .1) in
+    let i = swept-is _ _ _ (c .before .before .before .before .before .before .before .over-phases .ensures) ∙ c .before .before .before .before .before .swept .given .1 in
     rw (i, e) (c .timely2 .ensures)
 
 returns-3 : tie.Need-returns-3
 returns-3 c =
+    let a = c .before .before .before .before .before .before .before .before .before .before .args in
+    let e = sym (last-steady (a .old .now) (a .n) (a .new .now) (a .k) (a .c) (a .d)) ∙ closing-late _ (last-is _ _ _ (c .before .before .before .before .before .before .over-phases .ensures) ∙ c .before .enum-told .given .1) in
+    let i = swept-is _ _ _ (c .before .before .before .before .before .before .over-phases .ensures) ∙ c .before .before .before .before .swept .given .1 in
+    rw (i, e) (c .timely3 .ensures)
+
+returns-4 : tie.Need-returns-4
+returns-4 c =
     let i = swept-is _ _ _ (c .before .before .before .before .over-phases .ensures) ∙ c .before .before .swept2 .given .1 in
     rw (i, c .narrow .ensures)
 
@@ -82,14 +96,17 @@ pub completed-row-spec : {M : Type 1} → statement M
 completed-row-spec =
     tie.close
     (tie.spec
+    add-if1
+    timely-requires
+    returns
     over-phases-requires
     enum-known-swept
     enum-known-last
-    timely-requires
-    enum-told
     timely-requires-2
+    enum-told
+    timely-requires-3
     enum-known-swept-2
     narrow-requires
-    returns
     returns-2
-    returns-3)
+    returns-3
+    returns-4)

@@ -25,7 +25,7 @@ new-row-requires c κs =
     let g = c .before .before .before .before .before .before .before .before .gather .ensures in
     let h = c .before .before .before .before .gather2 .ensures in
     let q = c .before .before .before .before .before .before .before .before .before .before .before .before .before .before .before .before .pre in
-    (rw (g .0, g .1) (terms-ready (a .news .now) _ 3 (a .before .now) (q .0 .2) (a .k) (q .0 .1)), rw (h .0, h .1) (terms-ready (a .news .now) _ 4 (a .after .now) (q .0 .3) (a .k) (q .0 .1)), omega (arith, c .before .before .before .before .before .before .before .before .before .before .left .ensures), q .1 .0, q .1 .1)
+    (rw (g .0, g .1) (terms-ready (a .news .now) _ 3 (a .before .now) (a .k) (q .0 .1) (q .0 .2)), rw (h .0, h .1) (terms-ready (a .news .now) _ 4 (a .after .now) (a .k) (q .0 .1) (q .0 .3)), omega (arith, c .before .before .before .before .before .before .before .before .before .before .left .ensures), q .1 .0, q .1 .1)
 
 same-length : tie.Need-same-length
 same-length c = search needs
@@ -39,10 +39,10 @@ returns c =
     let g = c .before .before .before .before .before .before .before .before .before .gather .ensures in
     let h = c .before .before .before .before .before .gather2 .ensures in
     let q = c .before .before .before .before .before .before .before .before .before .before .before .before .before .before .before .before .before .pre in
-    let len = ap length (g .0) ∙ (terms-length (a .news .now) _ 3 (a .before .now) (a .k) ∙ q .0 .2) in
-    let len2 = ap length (h .0) ∙ (terms-length (a .news .now) _ 4 (a .after .now) (a .k) ∙ q .0 .3) in
+    let len = ap length (g .0) ∙ terms-length (a .news .now) _ 3 (a .before .now) (a .k) in
+    let len2 = ap length (h .0) ∙ terms-length (a .news .now) _ 4 (a .after .now) (a .k) in
     let r = rw (g .0, g .1, h .0, h .1, c .before .before .before .before .before .before .before .before .before .before .before .left .ensures .0, c .before .before .before .before .before .before .before .before .before .before .before .before .rank-of .ensures) at (c .new-row .ensures) in
-    (len, len2, λ xs ys t u o e. r ∙ new-is (a .i) (q .1 .0) (a .olds .now) (a .n) xs t (q .0 .0) o (a .before .now) (q .0 .2) (a .news .now) (a .k) ys u (q .0 .1) (a .after .now) (q .0 .3) e (q .1 .2))
+    (len, len2, λ xs ys t u o e. r ∙ new-is (a .i) (q .1 .0) (a .olds .now) (a .n) xs t (q .0 .0) o (a .before .now) (a .news .now) (a .k) ys u (q .0 .1) (a .after .now) (q .0 .3) e (q .1 .2) (q .0 .2))
 
 pub entering-spec : {M : Type 1} → statement M
 entering-spec =

@@ -1,7 +1,9 @@
+use native.Mathlib.Omega.{arith}
 use mathlib.Core.Path.{sym, ap}
 use Rattle.window.specs.Phases.{closingOf}
 use Rattle.rows.specs.Flat.{flatRequest}
-use Rattle.rows.proofs.Windows.{ready-none, flat-climbs, request-over}
+use Rattle.term.proofs.Terms.{ready-less}
+use Rattle.rows.proofs.Windows.{flat-climbs, request-over}
 use Rattle.rows.proofs.request.Statement.{statement}
 use Rattle.rows.proofs.request.Tie as tie
 
@@ -15,7 +17,7 @@ search-requires : tie.Need-search-requires
 search-requires c κs =
     let a = c .before .before .args in
     let q = c .before .before .pre in
-    ((ready-none (a .terms .now) (a .k) (q .0), q .0, q .2, q .3), flat-climbs (a .terms .now) 0 (a .terms .now) (a .k) (a .c) 0 (a .limit) (q .1) (c .if1 .left))
+    ((ready-less (a .terms .now) 0 (a .k) (omega arith) (q .0), q .0, q .2, q .3), flat-climbs (a .terms .now) 0 (a .terms .now) (a .k) (a .c) 0 (a .limit) (q .1) (c .if1 .left))
 
 returns-2 : tie.Need-returns-2
 unfolding flatRequest

@@ -1,4 +1,5 @@
 use borrow.Author.Needs.{needs}
+use mathlib.Core.Path.{refl}
 use Rattle.rows.proofs.row_of.Statement.{statement}
 use Rattle.rows.proofs.row_of.Tie as tie
 
@@ -23,7 +24,7 @@ same-length-3 c = search needs
 returns-2 : tie.Need-returns-2
 returns-2 c =
     let a = c .before .before .before .before .before .before .before .before .before .before .before .before .args in
-    (c .before .before .aborted .ensures .0, c .before .before .before .before .before .before .before .before .before .before .before .before .pre .0 .3, c .before .before .aborted .ensures .1 (a .news .now) (a .k))
+    (c .before .before .aborted .ensures .0, refl, c .before .before .aborted .ensures .1 (a .news .now) (a .k))
 
 entering-requires : tie.Need-entering-requires
 entering-requires c κs = search needs

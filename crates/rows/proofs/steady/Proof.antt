@@ -1,6 +1,7 @@
 use native.Mathlib.Omega.{arith}
 use Rattle.rows.specs.Flat.{flatSteady}
-use Rattle.rows.proofs.Windows.{ready-none, flat-climbs}
+use Rattle.term.proofs.Terms.{ready-less}
+use Rattle.rows.proofs.Windows.{flat-climbs}
 use Rattle.rows.proofs.steady.Statement.{statement}
 use Rattle.rows.proofs.steady.Tie as tie
 
@@ -8,7 +9,7 @@ search-requires : tie.Need-search-requires
 search-requires c κs =
     let a = c .before .args in
     let q = c .before .pre in
-    ((q .0, ready-none (a .terms .now) (a .n) (q .0), omega arith, omega arith), flat-climbs (a .terms .now) (a .n) (a .terms .now) 0 (a .c) (a .d) (a .d) (q .1) (q .2))
+    ((q .0, ready-less (a .terms .now) 0 (a .n) (omega arith) (q .0), omega arith, omega arith), flat-climbs (a .terms .now) (a .n) (a .terms .now) 0 (a .c) (a .d) (a .d) (q .1) (q .2))
 
 returns : tie.Need-returns
 unfolding flatSteady

@@ -26,26 +26,8 @@ unfolding upTo flatMap
 loop-holds c =
     (search needs, refl, refl)
 
-mul-from : tie.Need-mul-from Inv-loop μ-loop
-mul-from c = search needs
-
-add-from : tie.Need-add-from Inv-loop μ-loop
-add-from c = search needs
-
-add-record-at : tie.Need-add-record-at Inv-loop μ-loop
-add-record-at c = search needs
-
-sub-record-at : tie.Need-sub-record-at Inv-loop μ-loop
-sub-record-at c = search needs
-
-part-record-at-start : tie.Need-part-record-at-start Inv-loop μ-loop
-part-record-at-start c = search needs
-
-part-record-at-end : tie.Need-part-record-at-end Inv-loop μ-loop
-part-record-at-end c = search needs
-
-record-at-requires : tie.Need-record-at-requires Inv-loop μ-loop
-record-at-requires c κs = search needs
+task-at-requires : tie.Need-task-at-requires Inv-loop μ-loop
+task-at-requires c κs = search needs
 
 mul-at : tie.Need-mul-at Inv-loop μ-loop
 mul-at c = search needs
@@ -78,11 +60,11 @@ loop-less c =
 
 loop-again : tie.Need-loop-again Inv-loop μ-loop
 loop-again c =
-    let a = c .before .before .before .before .before .before .before .before .before .before .args in
-    let l = c .before .before .before .before .before .before .before .loop in (
+    let a = c .before .before .before .before .before .before .before .before .before .args in
+    let l = c .before .before .before .before .before .before .loop in (
       search needs,
       search needs,
-      list-more (λ k. taskOf (recordPart (a .block .now) k)) (l .list) (a .list .now) _ (l .k) (l .inv .2) (c .before .before .put-numbers .ensures ∙ ap numbersOf (c .before .before .before .before .record-at .ensures)),
+      list-more (λ k. taskOf (recordPart (a .block .now) k)) (l .list) (a .list .now) _ (l .k) (l .inv .2) (c .before .before .put-numbers .ensures ∙ ap numbersOf (c .before .before .before .before .task-at .ensures)),
     )
 
 same-length : tie.Need-same-length Inv-loop μ-loop
@@ -103,13 +85,7 @@ put-tasks-spec =
     Inv-loop
     μ-loop
     loop-holds
-    mul-from
-    add-from
-    add-record-at
-    sub-record-at
-    part-record-at-start
-    part-record-at-end
-    record-at-requires
+    task-at-requires
     mul-at
     add-put-numbers
     mul-put-numbers

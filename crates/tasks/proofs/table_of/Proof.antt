@@ -32,29 +32,11 @@ loop-holds c =
     let e = c .no-tasks .ensures in
     (search needs, refl, ap (λ (t : Table). length (t .tasks)) e, ap (λ (t : Table). t .tasks) e)
 
-mul-at : tie.Need-mul-at Inv-loop μ-loop
-mul-at c = search needs
+task-at-requires : tie.Need-task-at-requires Inv-loop μ-loop
+task-at-requires c κs = search needs
 
-add-at : tie.Need-add-at Inv-loop μ-loop
-add-at c = search needs
-
-add-record-at : tie.Need-add-record-at Inv-loop μ-loop
-add-record-at c = search needs
-
-sub-record-at : tie.Need-sub-record-at Inv-loop μ-loop
-sub-record-at c = search needs
-
-part-record-at-start : tie.Need-part-record-at-start Inv-loop μ-loop
-part-record-at-start c = search needs
-
-part-record-at-end : tie.Need-part-record-at-end Inv-loop μ-loop
-part-record-at-end c = search needs
-
-record-at-requires : tie.Need-record-at-requires Inv-loop μ-loop
-record-at-requires c κs = search needs
-
-mul-t14 : tie.Need-mul-t14 Inv-loop μ-loop
-mul-t14 c = search needs
+mul-t8 : tie.Need-mul-t8 Inv-loop μ-loop
+mul-t8 c = search needs
 
 element-set-from-table : tie.Need-element-set-from-table Inv-loop μ-loop
 element-set-from-table c = search needs
@@ -68,12 +50,12 @@ loop-less c =
 
 loop-again : tie.Need-loop-again Inv-loop μ-loop
 loop-again c =
-    let a = c .before .before .before .before .before .before .args in
-    let l = c .before .before .before .loop in (
+    let a = c .before .before .before .before .before .args in
+    let l = c .before .before .loop in (
       search needs,
       l .inv .1,
       simp length-set (omega arith),
-      table-more (λ k. taskOf (recordPart (a .block .now) k)) (l .table .tasks) _ (l .k) (omega arith) (l .inv .3) (c .record-at .ensures),
+      table-more (λ k. taskOf (recordPart (a .block .now) k)) (l .table .tasks) _ (l .k) (omega arith) (l .inv .3) (c .task-at .ensures),
     )
 
 returns : tie.Need-returns Inv-loop μ-loop
@@ -90,14 +72,8 @@ table-of-spec =
     μ-loop
     no-tasks-requires
     loop-holds
-    mul-at
-    add-at
-    add-record-at
-    sub-record-at
-    part-record-at-start
-    part-record-at-end
-    record-at-requires
-    mul-t14
+    task-at-requires
+    mul-t8
     element-set-from-table
     add-k
     loop-less

@@ -1,0 +1,75 @@
+-- `recip` divides 2^31 and takes what is left over 512-fold: together that is 2^40 over p, rounded up.
+use borrow.Author.Needs.{needs}
+use native.Mathlib.Omega.{arith}
+use native.Mathlib.Nat.{div-add-mod', mod-lt, mul-assoc, mul-add-div-right}
+use Prim.Native.Nat.{ℕ, _+_, _*_, _-_, _/_, _≤_, _<_}
+use mathlib.Core.Path.{_≡_, sym, _∙_}
+use Rattle.base.proofs.Recip.{recipOf}
+use Rattle.above.proofs.recip.Statement.{statement}
+use Rattle.above.proofs.recip.Tie as tie
+
+part : (p : ℕ) → 2147483648 / p * p ≤ 2147483648
+part p = omega (arith, div-add-mod' 2147483648 p)
+
+left : (p : ℕ) → 1 ≤ p → 2147483648 - 2147483648 / p * p < p
+left p h = omega (arith, div-add-mod' 2147483648 p, mod-lt 2147483648 h)
+
+split : (p : ℕ) → 1 ≤ p → recipOf p ≡ 512 * (2147483648 / p) + (512 * (2147483648 - 2147483648 / p * p) + (p - 1)) / p
+unfolding recipOf
+split p h =
+    let e : 1099511627776 + (p - 1) ≡ 512 * (2147483648 / p) * p + (512 * (2147483648 - 2147483648 / p * p) + (p - 1)) = omega (arith, part p, mul-assoc 512 (2147483648 / p) p) in
+    rw e (mul-add-div-right h (512 * (2147483648 / p)) (512 * (2147483648 - 2147483648 / p * p) + (p - 1)))
+
+div-q : tie.Need-div-q
+div-q c = search needs
+
+mul-rest : tie.Need-mul-rest
+mul-rest c = omega (arith, part (c .args .p))
+
+sub-rest : tie.Need-sub-rest
+sub-rest c = part (c .args .p)
+
+mul-more : tie.Need-mul-more
+mul-more c = omega (arith, left (c .args .p) (c .pre .0))
+
+sub-more : tie.Need-sub-more
+sub-more c = search needs
+
+add-more : tie.Need-add-more
+add-more c = omega (arith, left (c .args .p) (c .pre .0))
+
+div-more : tie.Need-div-more
+div-more c = search needs
+
+long-requires : tie.Need-long-requires
+long-requires c κs = search needs
+
+mul-result : tie.Need-mul-result
+mul-result c = search needs
+
+long-requires-2 : tie.Need-long-requires-2
+long-requires-2 c κs = search needs
+
+add-result : tie.Need-add-result
+add-result c = search needs
+
+returns : tie.Need-returns
+returns c =
+    rw (c .before .long .ensures .0, c .long2 .ensures .0) (sym (split (c .before .before .args .p) (c .before .before .pre .0)))
+
+pub recip-spec : {M : Type 1} → statement M
+recip-spec =
+    tie.close
+    (tie.spec
+    div-q
+    mul-rest
+    sub-rest
+    mul-more
+    sub-more
+    add-more
+    div-more
+    long-requires
+    mul-result
+    long-requires-2
+    add-result
+    returns)
