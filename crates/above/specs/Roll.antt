@@ -1,6 +1,5 @@
 -- The roll of a table, six numbers a task: reciprocal of T, T, C, mark (1 where aborted), Y, rank; and the terms that it gives of the tasks above a rank. Definitions only.
 use Prim.Native.Nat.{ℕ, zero, suc, _+_, _*_, _≤_, _<_}
-use mathlib.Core.Path.{_≡_}
 use mathlib.Core.Bool.{Bool, cond}
 use mathlib.Core.List.{List, [], _∷_}
 use lib.ListN.{length, getD}

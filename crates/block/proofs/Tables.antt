@@ -1,11 +1,11 @@
--- A table filled task by task, and the tasks of a table.
+-- A table filled task by task.
 use Prim.Native.Nat.{ℕ, suc, _+_, _-_, _<_}
-use mathlib.Core.Path.{_≡_, refl, sym, _∙_}
+use mathlib.Core.Path.{_≡_, sym, _∙_}
 use mathlib.Core.List.{List, [], _∷_, _++_, append-assoc}
 use native.Mathlib.Numerals.{add-one}
 use native.Mathlib.Omega.{arith}
-use lib.ListN.{length, take, set, replicate}
-use lib.Seq.{set-at, take-at}
+use lib.ListN.{length, set, replicate}
+use lib.Seq.{set-at}
 use Rattle.base.specs.Lists.{upTo}
 use Rattle.base.proofs.Lists.{up-length}
 use Rattle.block.specs.declared.Task.{Task}
@@ -30,7 +30,3 @@ table-is f t n k h c e =
     let g : t .tasks ≡ upTo f n ++ replicate (mostTasks - length (upTo f n)) noTask = rw (l, ← h) e in
     let d : t .count ≡ length (upTo f n) = c ∙ sym l in
     λ i. record { tasks = g i; count = d i }
-
--- the tasks that a table says
-pub table-tasks : (xs : List Task) → take (tableOf xs .count) (tableOf xs .tasks) ≡ xs
-table-tasks xs = take-at xs (replicate (mostTasks - length xs) noTask) (length xs) refl

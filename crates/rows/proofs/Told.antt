@@ -3,7 +3,7 @@ use Prim.Native.Nat.{ℕ, _*_, _≤_, _<_}
 use mathlib.Core.Path.{_≡_, refl, sym, ap, _∙_}
 use mathlib.Core.List.{List}
 use native.Mathlib.Omega.{arith}
-use lib.ListN.{length, getD, replicate, length-append, length-replicate}
+use lib.ListN.{length, getD, length-append, length-replicate}
 use Rattle.block.specs.declared.Task.{Task}
 use Rattle.block.specs.declared.Table.{Table}
 use Rattle.block.specs.Format.{mostTasks}

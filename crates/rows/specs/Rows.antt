@@ -6,7 +6,7 @@ use Rattle.base.specs.Lists.{upTo}
 use Rattle.block.specs.declared.Task.{Task}
 use Rattle.block.specs.declared.Verdict.{Verdict}
 use Rattle.block.specs.declared.Verdict.the-variants.{Passed, Refused}
-use Rattle.block.specs.Answers.{answer, firstOf}
+use Rattle.block.specs.Answers.{answer}
 use Rattle.block.specs.Checks.{noTask}
 use Rattle.rows.specs.declared.Judged.{Judged}
 use Rattle.rows.specs.declared.Judged.the-variants.{Timely, Late}

@@ -1,6 +1,6 @@
 // The rows of a pair: the row of each task, or the first late one.
 ghost use mathlib.Core.Path.{_≡_};
-ghost use Prim.Native.Nat.{ℕ, _+_, _*_, _<_, _≤_, _-_, max};
+ghost use Prim.Native.Nat.{ℕ, _+_, _*_, _<_, _≤_, _-_};
 ghost use mathlib.Core.List.{List};
 ghost use lib.ListN.{length};
 ghost use Rattle.block.specs.Format.{blockSize, mostTasks};

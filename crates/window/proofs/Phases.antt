@@ -16,7 +16,7 @@ use Rattle.window.specs.declared.Swept.{Swept}
 use Rattle.window.specs.declared.Swept.the-variants.{Over, LateAt}
 use Rattle.window.specs.declared.State.{State}
 use Rattle.window.specs.Worst.{takeOf, nextOf, sweep}
-use Rattle.window.specs.Phases.{closingOf, windowAt, Begun, Told, Kept, Seen}
+use Rattle.window.specs.Phases.{closingOf, windowAt, Begun, Kept, Seen}
 
 -- ---- ---- what the demands of one task at all phases have in common
 pub record Family (f : ℕ → ℕ → ℕ) (c : ℕ) : Type 0 where

@@ -5,7 +5,6 @@ use Prim.Native.Nat.{_≤_, _-_}
 use mathlib.Core.Path.{_≡_, refl, sym, ap, _∙_}
 use lib.ListN.{length, getD}
 use Rattle.base.proofs.Lists.{up-at}
-use Rattle.block.specs.declared.Task.{Task}
 use Rattle.block.specs.Checks.{noTask}
 use Rattle.block.specs.Record.{taskOf}
 use Rattle.block.specs.Block.{recordPart, tasksIn}

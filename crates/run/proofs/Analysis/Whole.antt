@@ -1,5 +1,5 @@
 -- A window that closes before the request with jobs cut off has one in it that closes with whole jobs: the window layer's law, over places.
-use Prim.Native.Nat.{ℕ, suc, _+_, _≤_, _<_, min}
+use Prim.Native.Nat.{ℕ, suc, _+_, _≤_, _<_}
 use native.Mathlib.Nat.{le-refl, min-eq-left}
 use native.Mathlib.Omega.{arith}
 use Rattle.block.specs.declared.Task.{Task}

@@ -4,9 +4,8 @@ use Rattle.base.proofs.Sums.{list-more}
 use Rattle.base.specs.Sums.{sumOf}
 use lib.Seq.{take-all}
 use lib.ListN.{length, take}
-use lib.Dec.{eqb}
-use mathlib.Core.Path.{_≡_, ap, _∙_}
-use Prim.Native.Nat.{ℕ, _≤_, _*_, _-_}
+use mathlib.Core.Path.{_≡_, _∙_}
+use Prim.Native.Nat.{_≤_, _-_}
 use borrow.Author.Needs.{needs}
 use native.Mathlib.Omega.{arith}
 use Rattle.words.proofs.all_zero.Statement.{statement}
