@@ -69,8 +69,8 @@ module _ (side : ℕ) (xs : List Task) (passed : firstOf (eachDouble side xs) �
 
 -- ---- a block that passes
 
-pub tasks-long : (b : List ℕ) → length (tasksIn b (countByte b)) ≡ countByte b
-tasks-long b = up-length (λ k. taskOf (recordPart b k)) (countByte b)
+pub tasks-length : (b : List ℕ) (n : ℕ) → length (tasksIn b n) ≡ n
+tasks-length b n = up-length (λ k. taskOf (recordPart b k)) n
 
 module _ (side : ℕ) (b : List ℕ) (passed : blockVerdict side b ≡ Passed) where
   pub block-head : firstOf (headChecks side b) ≡ Passed
@@ -99,13 +99,13 @@ module _ (side : ℕ) (b : List ℕ) (passed : blockVerdict side b ≡ Passed) w
   -- each task passes the rules of its own
   pub block-task : (xs : List Task) → xs ≡ tasksIn b (countByte b) → (k : ℕ) → k < length xs → firstOf (taskChecks side k (getD xs k noTask)) ≡ Passed
   block-task xs e k h =
-      let l : k < countByte b = omega (arith, ap length e, tasks-long b) in
+      let l : k < countByte b = omega (arith, ap length e, tasks-length b (countByte b)) in
       rw (e, up-at (λ k. taskOf (recordPart b k)) (countByte b) k noTask l)
       (first-left (taskChecks side k (taskOf (recordPart b k))) _ (each-at (λ k. firstOf (recordChecks side k (recordPart b k))) (countByte b) k l block-records))
 
   pub block-legal : Legal side (tasksIn b (countByte b))
   block-legal = record {
-    few = omega (arith, tasks-long b, block-count);
+    few = omega (arith, tasks-length b (countByte b), block-count);
     rules = λ k h. task-rules side k (getD (tasksIn b (countByte b)) k noTask) (block-task (tasksIn b (countByte b)) refl k h);
     numbers = other-number side (tasksIn b (countByte b)) block-doubles;
     priorities = other-priority side (tasksIn b (countByte b)) block-doubles;

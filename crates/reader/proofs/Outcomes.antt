@@ -4,7 +4,7 @@ use mathlib.Core.Path.{_≡_}
 use mathlib.Core.List.{List, _++_}
 use lib.ListN.{length, drop}
 use borrow.Author.Tests.{lt-ltb, le-ltb}
-use Rattle.block.proofs.Reading.{tasks-long}
+use Rattle.block.proofs.Reading.{tasks-length}
 use Rattle.block.specs.declared.Answer.{Answer}
 use Rattle.block.specs.declared.Verdict.the-variants.{Passed, Refused}
 use Rattle.block.specs.Format.{listSize}
@@ -22,9 +22,9 @@ module _ (side : ℕ) (b l : List ℕ) where
 
   pub read-short : blockVerdict side b ≡ Passed → length l < listSize * countByte b → readOf side b l ≡ outcome (answer 8 2 0 0) l
   unfolding readOf readingOf
-  read-short e h = rw (e, tasks-long b, lt-ltb _ _ h)
+  read-short e h = rw (e, tasks-length b (countByte b), lt-ltb _ _ h)
 
   pub read-done : blockVerdict side b ≡ Passed → listSize * countByte b ≤ length l
       → readOf side b l ≡ outcome (answer 0 side (countByte b) (modeNumber b)) (listOf (tasksIn b (countByte b)) ++ drop (listSize * countByte b) l)
   unfolding readOf readingOf
-  read-done e h = rw (e, tasks-long b, le-ltb _ _ h)
+  read-done e h = rw (e, tasks-length b (countByte b), le-ltb _ _ h)

@@ -13,6 +13,7 @@ use native.Mathlib.Numerals.{add-one}
 use Rattle.base.specs.Lists.{upTo}
 use Rattle.base.proofs.Lists.{up-length, up-at, flat-length, flat-part}
 use Rattle.base.proofs.Search.{le-or-lt}
+use Rattle.block.proofs.Reading.{tasks-length}
 use Rattle.block.proofs.Verdicts.{first-on, first-last}
 use Rattle.block.specs.declared.Task.{Task}
 use Rattle.block.specs.declared.Answer.{Answer}
@@ -33,9 +34,6 @@ use Rattle.rows.specs.Fill.{taskAt, checkAt, Going, Filled}
 pub row-width : (j : Judged) → length (rowNumbers j) ≡ rowSize
 row-width (Timely r) = refl
 row-width (Late d) = refl
-
-pub tasks-length : (b : List ℕ) (n : ℕ) → length (tasksIn b n) ≡ n
-tasks-length b n = up-length (λ k. taskOf (recordPart b k)) n
 
 -- one list behind another
 module _ {A : Type 0} (xs ys : List A) (d : A) where

@@ -9,10 +9,11 @@ use Rattle.block.specs.declared.Table.{Table}
 use Rattle.block.specs.Format.{mostTasks}
 use Rattle.block.specs.Checks.{noTask}
 use Rattle.block.specs.Block.{tasksIn, tableOf}
+use Rattle.block.proofs.Reading.{tasks-length}
 use Rattle.above.specs.Roll.{Periodic, sixOf, rollOf, Rolled}
 use Rattle.above.proofs.Above.{roll-at}
 use Rattle.rows.specs.Fill.{Held, Told}
-use Rattle.rows.proofs.Laid.{tasks-length, in-first}
+use Rattle.rows.proofs.Laid.{in-first}
 
 pub within : (k m l : ℕ) → l ≡ k → m ≤ k → m ≤ l
 within k m l e h = omega arith

@@ -4,8 +4,8 @@ use Prim.Native.Nat.{_+_, _*_, _≤_}
 use mathlib.Core.Path.{_≡_, refl, sym, _∙_}
 use lib.ListN.{length}
 use Rattle.block.specs.Block.{tasksIn}
+use Rattle.block.proofs.Reading.{tasks-length}
 use Rattle.rows.specs.Rows.{rowSize}
-use Rattle.rows.proofs.Laid.{tasks-length}
 use Rattle.pair.proofs.Exits.{parts, pair-short, pair-late, pair-done}
 use Rattle.pair.proofs.settle.Statement.{statement}
 use Rattle.pair.proofs.settle.Tie as tie

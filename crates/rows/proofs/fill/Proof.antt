@@ -7,9 +7,10 @@ use mathlib.Core.List.{_++_}
 use lib.ListN.{length, getD, length-set}
 use Rattle.block.specs.Checks.{noTask}
 use Rattle.block.specs.Block.{tasksIn}
+use Rattle.block.proofs.Reading.{tasks-length}
 use Rattle.rows.specs.Row.{rowOf}
 use Rattle.rows.specs.Fill.{Going}
-use Rattle.rows.proofs.Laid.{tasks-length, task-place, times, going-first, going-more, going-late, going-end}
+use Rattle.rows.proofs.Laid.{task-place, times, going-first, going-more, going-late, going-end}
 use Rattle.rows.proofs.fill.Statement.{statement}
 use Rattle.rows.proofs.fill.Tie as tie
 

@@ -7,8 +7,9 @@ use lib.ListN.{length, take}
 use Rattle.base.specs.Lists.{over}
 use Rattle.base.proofs.Lists.{over-front}
 use Rattle.block.specs.Block.{tasksIn}
+use Rattle.block.proofs.Reading.{tasks-length}
 use Rattle.rows.specs.Rows.{rowSize, rowsOf}
-use Rattle.rows.proofs.Laid.{tasks-length, rows-length}
+use Rattle.rows.proofs.Laid.{rows-length}
 use Rattle.rows.proofs.judge.Statement.{statement}
 use Rattle.rows.proofs.judge.Tie as tie
 
