@@ -51,9 +51,9 @@ fn tried(line: &[u8], side: u32, block: [u8; 512]) -> [u8; 512] {
 
 fn tell(old: &[u8], new: &[u8], report: &mut [u32], before: &[u32]) {
     let a = pair::analyse(old, new, report);
-    tries::say_outcome(a, tries::same_from(report, before, 0));
+    says::say_outcome(a, tries::same_from(report, before, 0));
     if a.code == 0 {
-        tries::say_numbers(b"", report);
+        says::say_numbers(b"", report);
     }
 }
 
@@ -108,9 +108,9 @@ fn heed(line: &[u8], p: Pair) -> Pair {
 }
 
 fn try_line(line: &[u8], p: Pair) -> Pair {
-    tries::say(line);
+    says::say(line);
     let next = heed(line, p);
-    tries::say(b"\n");
+    says::say(b"\n");
     next
 }
 

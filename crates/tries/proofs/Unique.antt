@@ -1,4 +1,4 @@
--- Each public function's contract leaves one answer and one content of what is lent. What is printed no contract says: those functions answer nothing.
+-- Each public function's contract leaves one answer and one content of what is lent.
 use mathlib.Core.Path.{_≡_, sym, _∙_}
 use denote.Ref.{now}
 use contract.Lifetimes.{Lfts}
@@ -20,18 +20,6 @@ use Rattle.tries.proofs.no_block.Reads as no-block
 use Rattle.tries.proofs.no_block.Kinds as no-block-kinds
 use Rattle.tries.proofs.same_from.Reads as same-from
 use Rattle.tries.proofs.same_from.Kinds as same-from-kinds
-use Rattle.tries.proofs.say.Reads as say
-use Rattle.tries.proofs.say.Kinds as say-kinds
-use Rattle.tries.proofs.say_numbers.Reads as say-numbers
-use Rattle.tries.proofs.say_numbers.Kinds as say-numbers-kinds
-use Rattle.tries.proofs.say_answer.Reads as say-answer
-use Rattle.tries.proofs.say_answer.Kinds as say-answer-kinds
-use Rattle.tries.proofs.say_kept.Reads as say-kept
-use Rattle.tries.proofs.say_kept.Kinds as say-kept-kinds
-use Rattle.tries.proofs.say_outcome.Reads as say-outcome
-use Rattle.tries.proofs.say_outcome.Kinds as say-outcome-kinds
-use Rattle.tries.proofs.say_back.Reads as say-back
-use Rattle.tries.proofs.say_back.Kinds as say-back-kinds
 
 pub number-unique : (κs : Lfts 1) (a : Dens κs number-kinds.ps) (r r′ : resT number-kinds.r κs .Denot) (s s′ : AtExit (endedOf 1 number-kinds.ps number-kinds.r) κs)
     → number.Post κs a r s → number.Post κs a r′ s′ → r ≡ r′
@@ -64,27 +52,3 @@ no-block-unique κs a r r′ s s′ p q = p ∙ sym q
 pub same-from-unique : (κs : Lfts 2) (a : Dens κs same-from-kinds.ps) (r r′ : resT same-from-kinds.r κs .Denot) (s s′ : AtExit (endedOf 2 same-from-kinds.ps same-from-kinds.r) κs)
     → same-from.Post κs a r s → same-from.Post κs a r′ s′ → r ≡ r′
 same-from-unique κs a r r′ s s′ p q = p ∙ sym q
-
-pub say-unique : (κs : Lfts 1) (a : Dens κs say-kinds.ps) (r r′ : resT say-kinds.r κs .Denot) (s s′ : AtExit (endedOf 1 say-kinds.ps say-kinds.r) κs)
-    → say.Post κs a r s → say.Post κs a r′ s′ → r ≡ r′
-say-unique κs a r r′ s s′ p q = p ∙ sym q
-
-pub say-numbers-unique : (κs : Lfts 2) (a : Dens κs say-numbers-kinds.ps) (r r′ : resT say-numbers-kinds.r κs .Denot) (s s′ : AtExit (endedOf 2 say-numbers-kinds.ps say-numbers-kinds.r) κs)
-    → say-numbers.Post κs a r s → say-numbers.Post κs a r′ s′ → r ≡ r′
-say-numbers-unique κs a r r′ s s′ p q = p ∙ sym q
-
-pub say-answer-unique : (κs : Lfts 0) (a : Dens κs say-answer-kinds.ps) (r r′ : resT say-answer-kinds.r κs .Denot) (s s′ : AtExit (endedOf 0 say-answer-kinds.ps say-answer-kinds.r) κs)
-    → say-answer.Post κs a r s → say-answer.Post κs a r′ s′ → r ≡ r′
-say-answer-unique κs a r r′ s s′ p q = p ∙ sym q
-
-pub say-kept-unique : (κs : Lfts 0) (a : Dens κs say-kept-kinds.ps) (r r′ : resT say-kept-kinds.r κs .Denot) (s s′ : AtExit (endedOf 0 say-kept-kinds.ps say-kept-kinds.r) κs)
-    → say-kept.Post κs a r s → say-kept.Post κs a r′ s′ → r ≡ r′
-say-kept-unique κs a r r′ s s′ p q = p ∙ sym q
-
-pub say-outcome-unique : (κs : Lfts 0) (a : Dens κs say-outcome-kinds.ps) (r r′ : resT say-outcome-kinds.r κs .Denot) (s s′ : AtExit (endedOf 0 say-outcome-kinds.ps say-outcome-kinds.r) κs)
-    → say-outcome.Post κs a r s → say-outcome.Post κs a r′ s′ → r ≡ r′
-say-outcome-unique κs a r r′ s s′ p q = p ∙ sym q
-
-pub say-back-unique : (κs : Lfts 0) (a : Dens κs say-back-kinds.ps) (r r′ : resT say-back-kinds.r κs .Denot) (s s′ : AtExit (endedOf 0 say-back-kinds.ps say-back-kinds.r) κs)
-    → say-back.Post κs a r s → say-back.Post κs a r′ s′ → r ≡ r′
-say-back-unique κs a r r′ s s′ p q = p ∙ sym q

@@ -1,21 +1,21 @@
-// What the programs that run edge cases share: what a line of their tries says, good lists, damage to a block, lent memory, printing.
-// No contract can say what is printed.
+// What the programs that run edge cases share: what a line of their tries says, good lists, damage to a block, lent memory.
 ghost use mathlib.Core.Path.{_≡_};
 ghost use Prim.Native.Nat.{_<_, _≤_, min};
 ghost use lib.ListN.{length, drop};
 ghost use Rattle.block.specs.Format.{blockSize};
 ghost use Rattle.tries.specs.Tries.{wordBy, toldBy, numberOf, goodTask, goodList, putByte, mended, damaged, noNumbers, noBytes, noBlock, agree};
-use block::Answer;
 use block::BLOCK_SIZE;
 use block::CHECK_PLACE;
 use block::LIST_SIZE;
 use block::Task;
-use libc::STDOUT_FILENO;
 
 // The largest memory lent: 32 tasks, and a byte more than a block.
 pub const MOST_NUMBERS: usize = 224;
 
 pub const MOST_BYTES: usize = 513;
+
+// The mode number that is written.
+pub const MODE: u16 = 513;
 
 const GOOD_TASKS: usize = 32;
 
@@ -183,60 +183,4 @@ pub fn same_from(a: &[u32], b: &[u32], from: usize) -> bool
         i += 1;
     }
     true
-}
-
-// ---- what is printed
-
-pub fn say(text: &[u8])
-    ensures { λ r. ⌜ r ≡ tt ⌝ }
-{
-    io::write_all(STDOUT_FILENO, text);
-}
-
-// A text, then each number with a space before it.
-pub fn say_numbers(text: &[u8], numbers: &[u32])
-    ensures { λ r. ⌜ r ≡ tt ⌝ }
-{
-    say(text);
-    let mut i: usize = 0;
-    while i < numbers.len() {
-        say(b" ");
-        io::print_decimal(STDOUT_FILENO, numbers[i] as u64);
-        i += 1;
-    }
-}
-
-pub fn say_answer(a: Answer)
-    ensures { λ r. ⌜ r ≡ tt ⌝ }
-{
-    let numbers = [a.code, a.side, a.record, a.detail];
-    say_numbers(b":", &numbers);
-}
-
-pub fn say_kept(kept: bool)
-    ensures { λ r. ⌜ r ≡ tt ⌝ }
-{
-    if kept {
-        say(b" kept");
-        return;
-    }
-    say(b" changed");
-}
-
-// An answer, and whether the lent memory is as it was.
-pub fn say_outcome(a: Answer, kept: bool)
-    ensures { λ r. ⌜ r ≡ tt ⌝ }
-{
-    say_answer(a);
-    say_kept(kept);
-}
-
-pub fn say_back(same: bool)
-    ensures { λ r. ⌜ r ≡ tt ⌝ }
-{
-    if same {
-        say(b", back same");
-        return;
-    }
-    say(b", back other");
 }

@@ -3,8 +3,8 @@ use lib.ListN.{length}
 use Prim.Native.Nat.{_≤_, _-_}
 use native.Mathlib.Omega.{arith}
 use borrow.Author.Needs.{needs}
-use Rattle.tries.proofs.say_numbers.Statement.{statement}
-use Rattle.tries.proofs.say_numbers.Tie as tie
+use Rattle.says.proofs.say_numbers.Statement.{statement}
+use Rattle.says.proofs.say_numbers.Tie as tie
 
 abbrev Inv-loop : tie.InvT-loop
 Inv-loop text numbers i₀ t4 i = i ≤ length numbers
