@@ -8,86 +8,26 @@ use Rattle.above.specs.Roll.{entered}
 use Rattle.above.proofs.enter.Statement.{statement}
 use Rattle.above.proofs.enter.Tie as tie
 
-wider-requires : tie.Need-wider-requires
-wider-requires c κs = search needs
-
-whole-requires : tie.Need-whole-requires
-whole-requires c κs = search needs
-
 recip-requires : tie.Need-recip-requires
 recip-requires c κs =
     let e = c .whole .ensures in
     (rw e (c .before .before .before .pre .1), omega (arith, e, c .before .wider .ensures))
 
-mul-nums : tie.Need-mul-nums
-mul-nums c = search needs
-
-slice-write-nums : tie.Need-slice-write-nums
-slice-write-nums c = search needs
-
-add-nums : tie.Need-add-nums
-add-nums c = search needs
-
-mul-nums-2 : tie.Need-mul-nums-2
-mul-nums-2 c = search needs
-
 slice-write-nums-2 : tie.Need-slice-write-nums-2
 slice-write-nums-2 c =
     simp length-set (omega arith)
-
-wider-requires-2 : tie.Need-wider-requires-2
-wider-requires-2 c κs = search needs
-
-add-nums-2 : tie.Need-add-nums-2
-add-nums-2 c = search needs
-
-mul-nums-3 : tie.Need-mul-nums-3
-mul-nums-3 c = search needs
 
 slice-write-nums-3 : tie.Need-slice-write-nums-3
 slice-write-nums-3 c =
     simp length-set (omega arith)
 
-mark-of-requires : tie.Need-mark-of-requires
-mark-of-requires c κs = search needs
-
-add-nums-3 : tie.Need-add-nums-3
-add-nums-3 c = search needs
-
-mul-nums-4 : tie.Need-mul-nums-4
-mul-nums-4 c = search needs
-
 slice-write-nums-4 : tie.Need-slice-write-nums-4
 slice-write-nums-4 c =
     simp length-set (omega arith)
 
-wider-requires-3 : tie.Need-wider-requires-3
-wider-requires-3 c κs = search needs
-
-add-nums-4 : tie.Need-add-nums-4
-add-nums-4 c = search needs
-
-mul-nums-5 : tie.Need-mul-nums-5
-mul-nums-5 c = search needs
-
 slice-write-nums-5 : tie.Need-slice-write-nums-5
 slice-write-nums-5 c =
     simp length-set (omega arith)
-
-rank-of-requires : tie.Need-rank-of-requires
-rank-of-requires c κs = search needs
-
-add-nums-5 : tie.Need-add-nums-5
-add-nums-5 c = search needs
-
-mul-nums-6 : tie.Need-mul-nums-6
-mul-nums-6 c = search needs
-
-slice-write-nums-6 : tie.Need-slice-write-nums-6
-slice-write-nums-6 c = search needs
-
-same-length : tie.Need-same-length
-same-length c = search needs
 
 returns : tie.Need-returns
 unfolding entered
@@ -106,29 +46,29 @@ pub enter-spec : {M : Type 1} → statement M
 enter-spec =
     tie.close
     (tie.spec
-    wider-requires
-    whole-requires
+    (λ c κs. search needs)
+    (λ c κs. search needs)
     recip-requires
-    mul-nums
-    slice-write-nums
-    add-nums
-    mul-nums-2
+    (λ c. search needs)
+    (λ c. search needs)
+    (λ c. search needs)
+    (λ c. search needs)
     slice-write-nums-2
-    wider-requires-2
-    add-nums-2
-    mul-nums-3
+    (λ c κs. search needs)
+    (λ c. search needs)
+    (λ c. search needs)
     slice-write-nums-3
-    mark-of-requires
-    add-nums-3
-    mul-nums-4
+    (λ c κs. search needs)
+    (λ c. search needs)
+    (λ c. search needs)
     slice-write-nums-4
-    wider-requires-3
-    add-nums-4
-    mul-nums-5
+    (λ c κs. search needs)
+    (λ c. search needs)
+    (λ c. search needs)
     slice-write-nums-5
-    rank-of-requires
-    add-nums-5
-    mul-nums-6
-    slice-write-nums-6
-    same-length
+    (λ c κs. search needs)
+    (λ c. search needs)
+    (λ c. search needs)
+    (λ c. search needs)
+    (λ c. search needs)
     returns)

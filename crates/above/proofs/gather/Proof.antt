@@ -21,71 +21,17 @@ unfolding termsAbove countAbove sum
 loop-holds c =
     (search needs, refl, refl, search needs, refl)
 
-mul-at : tie.Need-mul-at Inv-loop μ-loop
-mul-at c = search needs
-
 mul-put : tie.Need-mul-put Inv-loop μ-loop
 mul-put c =
     omega (arith, c .before .before .before .before .before .pre .0 .few)
-
-mul-put-2 : tie.Need-mul-put-2 Inv-loop μ-loop
-mul-put-2 c = search needs
-
-shared-slice-read-put : tie.Need-shared-slice-read-put Inv-loop μ-loop
-shared-slice-read-put c = search needs
-
-add-put : tie.Need-add-put Inv-loop μ-loop
-add-put c = search needs
-
-mul-put-3 : tie.Need-mul-put-3 Inv-loop μ-loop
-mul-put-3 c = search needs
-
-shared-slice-read-put-2 : tie.Need-shared-slice-read-put-2 Inv-loop μ-loop
-shared-slice-read-put-2 c = search needs
-
-add-put-2 : tie.Need-add-put-2 Inv-loop μ-loop
-add-put-2 c = search needs
-
-mul-put-4 : tie.Need-mul-put-4 Inv-loop μ-loop
-mul-put-4 c = search needs
-
-shared-slice-read-put-3 : tie.Need-shared-slice-read-put-3 Inv-loop μ-loop
-shared-slice-read-put-3 c = search needs
-
-add-put-3 : tie.Need-add-put-3 Inv-loop μ-loop
-add-put-3 c = search needs
-
-mul-put-5 : tie.Need-mul-put-5 Inv-loop μ-loop
-mul-put-5 c = search needs
-
-shared-slice-read-put-4 : tie.Need-shared-slice-read-put-4 Inv-loop μ-loop
-shared-slice-read-put-4 c = search needs
 
 put-requires : tie.Need-put-requires Inv-loop μ-loop
 put-requires c κs =
     omega (arith, c .before .before .before .before .before .before .loop .inv, c .before .before .before .before .before .before .before .before .before .pre .0 .few)
 
-add-counts : tie.Need-add-counts Inv-loop μ-loop
-add-counts c = search needs
-
-mul-counts : tie.Need-mul-counts Inv-loop μ-loop
-mul-counts c = search needs
-
-shared-slice-read-counts : tie.Need-shared-slice-read-counts Inv-loop μ-loop
-shared-slice-read-counts c = search needs
-
-counts-requires : tie.Need-counts-requires Inv-loop μ-loop
-counts-requires c κs = search needs
-
 add-count : tie.Need-add-count Inv-loop μ-loop
 add-count c =
     omega (arith, c .before .before .before .before .before .before .before .before .before .before .before .before .before .before .pre .0 .few, c .counts .ensures, one-le (isAbove (c .before .before .before .before .before .before .before .before .before .before .before .before .before .before .args .rolls .now) (c .before .before .before .before .before .before .before .before .before .before .before .before .before .before .args .p) (c .before .before .before .before .before .before .before .before .before .before .before .loop .j)))
-
-add-j : tie.Need-add-j Inv-loop μ-loop
-add-j c = search needs
-
-loop-less : tie.Need-loop-less Inv-loop μ-loop
-loop-less c = search needs
 
 loop-again : tie.Need-loop-again Inv-loop μ-loop
 unfolding termsAbove
@@ -115,27 +61,27 @@ gather-spec =
     Inv-loop
     μ-loop
     loop-holds
-    mul-at
+    (λ c. search needs)
     mul-put
-    mul-put-2
-    shared-slice-read-put
-    add-put
-    mul-put-3
-    shared-slice-read-put-2
-    add-put-2
-    mul-put-4
-    shared-slice-read-put-3
-    add-put-3
-    mul-put-5
-    shared-slice-read-put-4
+    (λ c. search needs)
+    (λ c. search needs)
+    (λ c. search needs)
+    (λ c. search needs)
+    (λ c. search needs)
+    (λ c. search needs)
+    (λ c. search needs)
+    (λ c. search needs)
+    (λ c. search needs)
+    (λ c. search needs)
+    (λ c. search needs)
     put-requires
-    add-counts
-    mul-counts
-    shared-slice-read-counts
-    counts-requires
+    (λ c. search needs)
+    (λ c. search needs)
+    (λ c. search needs)
+    (λ c κs. search needs)
     add-count
-    add-j
-    loop-less
+    (λ c. search needs)
+    (λ c. search needs)
     loop-again
     same-length
     returns)

@@ -19,36 +19,6 @@ unfolding leftAbove sum
 loop-holds c =
     search needs
 
-mul-at : tie.Need-mul-at Inv-loop μ-loop
-mul-at c = search needs
-
-add-left-of : tie.Need-add-left-of Inv-loop μ-loop
-add-left-of c = search needs
-
-mul-left-of : tie.Need-mul-left-of Inv-loop μ-loop
-mul-left-of c = search needs
-
-shared-slice-read-left-of : tie.Need-shared-slice-read-left-of Inv-loop μ-loop
-shared-slice-read-left-of c = search needs
-
-add-left-of-2 : tie.Need-add-left-of-2 Inv-loop μ-loop
-add-left-of-2 c = search needs
-
-mul-left-of-2 : tie.Need-mul-left-of-2 Inv-loop μ-loop
-mul-left-of-2 c = search needs
-
-shared-slice-read-left-of-2 : tie.Need-shared-slice-read-left-of-2 Inv-loop μ-loop
-shared-slice-read-left-of-2 c = search needs
-
-add-left-of-3 : tie.Need-add-left-of-3 Inv-loop μ-loop
-add-left-of-3 c = search needs
-
-mul-left-of-3 : tie.Need-mul-left-of-3 Inv-loop μ-loop
-mul-left-of-3 c = search needs
-
-shared-slice-read-left-of-3 : tie.Need-shared-slice-read-left-of-3 Inv-loop μ-loop
-shared-slice-read-left-of-3 c = search needs
-
 left-of-requires : tie.Need-left-of-requires Inv-loop μ-loop
 left-of-requires c κs =
     c .before .before .before .before .before .before .pre .good (c .before .before .before .before .loop .j) (omega arith) .time
@@ -56,12 +26,6 @@ left-of-requires c κs =
 add-sum : tie.Need-add-sum Inv-loop μ-loop
 add-sum c =
     omega (arith, c .before .before .before .before .before .before .before .pre .few)
-
-add-j : tie.Need-add-j Inv-loop μ-loop
-add-j c = search needs
-
-loop-less : tie.Need-loop-less Inv-loop μ-loop
-loop-less c = search needs
 
 step : (c : tie.After-left-of Inv-loop μ-loop) → c .before .before .before .before .before .loop .sum + c .left-of .result ≡ leftAbove (c .before .before .before .before .before .before .before .args .rolls .now) (c .before .before .before .before .before .before .before .args .p) (c .before .before .before .before .before .loop .j + 1)
 unfolding leftAbove
@@ -83,19 +47,19 @@ left-spec =
     Inv-loop
     μ-loop
     loop-holds
-    mul-at
-    add-left-of
-    mul-left-of
-    shared-slice-read-left-of
-    add-left-of-2
-    mul-left-of-2
-    shared-slice-read-left-of-2
-    add-left-of-3
-    mul-left-of-3
-    shared-slice-read-left-of-3
+    (λ c. search needs)
+    (λ c. search needs)
+    (λ c. search needs)
+    (λ c. search needs)
+    (λ c. search needs)
+    (λ c. search needs)
+    (λ c. search needs)
+    (λ c. search needs)
+    (λ c. search needs)
+    (λ c. search needs)
     left-of-requires
     add-sum
-    add-j
-    loop-less
+    (λ c. search needs)
+    (λ c. search needs)
     loop-again
     returns)

@@ -7,43 +7,13 @@ use Rattle.above.specs.Roll.{placed}
 use Rattle.above.proofs.put.Statement.{statement}
 use Rattle.above.proofs.put.Tie as tie
 
-mul-nums : tie.Need-mul-nums
-mul-nums c = search needs
-
-slice-write-nums : tie.Need-slice-write-nums
-slice-write-nums c = search needs
-
-add-nums : tie.Need-add-nums
-add-nums c = search needs
-
-mul-nums-2 : tie.Need-mul-nums-2
-mul-nums-2 c = search needs
-
 slice-write-nums-2 : tie.Need-slice-write-nums-2
 slice-write-nums-2 c =
     simp length-set (omega arith)
 
-add-nums-2 : tie.Need-add-nums-2
-add-nums-2 c = search needs
-
-mul-nums-3 : tie.Need-mul-nums-3
-mul-nums-3 c = search needs
-
 slice-write-nums-3 : tie.Need-slice-write-nums-3
 slice-write-nums-3 c =
     simp length-set (omega arith)
-
-add-nums-3 : tie.Need-add-nums-3
-add-nums-3 c = search needs
-
-mul-nums-4 : tie.Need-mul-nums-4
-mul-nums-4 c = search needs
-
-slice-write-nums-4 : tie.Need-slice-write-nums-4
-slice-write-nums-4 c = search needs
-
-same-length : tie.Need-same-length
-same-length c = search needs
 
 returns : tie.Need-returns
 unfolding placed
@@ -58,16 +28,16 @@ pub put-spec : {M : Type 1} → statement M
 put-spec =
     tie.close
     (tie.spec
-    mul-nums
-    slice-write-nums
-    add-nums
-    mul-nums-2
+    (λ c. search needs)
+    (λ c. search needs)
+    (λ c. search needs)
+    (λ c. search needs)
     slice-write-nums-2
-    add-nums-2
-    mul-nums-3
+    (λ c. search needs)
+    (λ c. search needs)
     slice-write-nums-3
-    add-nums-3
-    mul-nums-4
-    slice-write-nums-4
-    same-length
+    (λ c. search needs)
+    (λ c. search needs)
+    (λ c. search needs)
+    (λ c. search needs)
     returns)

@@ -20,9 +20,6 @@ split p h =
     let e : 1099511627776 + (p - 1) ≡ 512 * (2147483648 / p) * p + (512 * (2147483648 - 2147483648 / p * p) + (p - 1)) = omega (arith, part p, mul-assoc 512 (2147483648 / p) p) in
     rw e (mul-add-div-right h (512 * (2147483648 / p)) (512 * (2147483648 - 2147483648 / p * p) + (p - 1)))
 
-div-q : tie.Need-div-q
-div-q c = search needs
-
 mul-rest : tie.Need-mul-rest
 mul-rest c = omega (arith, part (c .args .p))
 
@@ -32,26 +29,8 @@ sub-rest c = part (c .args .p)
 mul-more : tie.Need-mul-more
 mul-more c = omega (arith, left (c .args .p) (c .pre .0))
 
-sub-more : tie.Need-sub-more
-sub-more c = search needs
-
 add-more : tie.Need-add-more
 add-more c = omega (arith, left (c .args .p) (c .pre .0))
-
-div-more : tie.Need-div-more
-div-more c = search needs
-
-long-requires : tie.Need-long-requires
-long-requires c κs = search needs
-
-mul-result : tie.Need-mul-result
-mul-result c = search needs
-
-long-requires-2 : tie.Need-long-requires-2
-long-requires-2 c κs = search needs
-
-add-result : tie.Need-add-result
-add-result c = search needs
 
 returns : tie.Need-returns
 returns c =
@@ -61,15 +40,15 @@ pub recip-spec : {M : Type 1} → statement M
 recip-spec =
     tie.close
     (tie.spec
-    div-q
+    (λ c. search needs)
     mul-rest
     sub-rest
     mul-more
-    sub-more
+    (λ c. search needs)
     add-more
-    div-more
-    long-requires
-    mul-result
-    long-requires-2
-    add-result
+    (λ c. search needs)
+    (λ c κs. search needs)
+    (λ c. search needs)
+    (λ c κs. search needs)
+    (λ c. search needs)
     returns)

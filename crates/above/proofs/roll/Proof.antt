@@ -20,27 +20,12 @@ unfolding rollOf
 loop-holds c =
     (search needs, refl, refl, rolled-none (c .before .args .nums .now))
 
-mul-x : tie.Need-mul-x Inv-loop μ-loop
-mul-x c = search needs
-
-element-copy-out-x : tie.Need-element-copy-out-x Inv-loop μ-loop
-element-copy-out-x c = search needs
-
-mul-enter : tie.Need-mul-enter Inv-loop μ-loop
-mul-enter c = search needs
-
 enter-requires : tie.Need-enter-requires Inv-loop μ-loop
 enter-requires c κs =
     let l = c .before .before .before .loop in
     let a = c .before .before .before .before .before .args in
     let q = c .before .before .before .before .before .pre in
     (omega (arith, roll-room (a .nums .now) (a .t2 .tasks) (a .t2 .count) (q .1) (q .2) (l .j) (l .nums) (l .inv .2) (l .inv .3) (omega arith)), q .1 .periods (l .j) (omega arith))
-
-add-j : tie.Need-add-j Inv-loop μ-loop
-add-j c = search needs
-
-loop-less : tie.Need-loop-less Inv-loop μ-loop
-loop-less c = search needs
 
 loop-again : tie.Need-loop-again Inv-loop μ-loop
 loop-again c =
@@ -67,12 +52,12 @@ roll-spec =
     Inv-loop
     μ-loop
     loop-holds
-    mul-x
-    element-copy-out-x
-    mul-enter
+    (λ c. search needs)
+    (λ c. search needs)
+    (λ c. search needs)
     enter-requires
-    add-j
-    loop-less
+    (λ c. search needs)
+    (λ c. search needs)
     loop-again
     same-length
     returns)

@@ -24,9 +24,6 @@ unfolding rollOf
 loop-holds c =
     (search needs, refl, rolled-none (c .before .before .args .nums .now))
 
-mul-enter : tie.Need-mul-enter Inv-loop μ-loop
-mul-enter c = search needs
-
 task-at-requires : tie.Need-task-at-requires Inv-loop μ-loop
 task-at-requires c κs =
     (c .before .before .before .before .before .pre .0, omega (arith, c .before .before .before .before .before .pre .1 .few))
@@ -42,12 +39,6 @@ enter-requires c κs =
     let a = c .before .before .before .before .before .before .args in
     let q = c .before .before .before .before .before .before .pre in
     (omega (arith, roll-room (a .nums .now) (tasksIn (a .block .now) (a .n)) (a .n) (q .1) (q .2) (l .j) (l .nums) (l .inv .1) (l .inv .2) (omega arith)), rw (is-task c) (q .1 .periods (l .j) (omega arith)))
-
-add-j : tie.Need-add-j Inv-loop μ-loop
-add-j c = search needs
-
-loop-less : tie.Need-loop-less Inv-loop μ-loop
-loop-less c = search needs
 
 loop-again : tie.Need-loop-again Inv-loop μ-loop
 loop-again c =
@@ -74,11 +65,11 @@ roll-records-spec =
     Inv-loop
     μ-loop
     loop-holds
-    mul-enter
+    (λ c. search needs)
     task-at-requires
     enter-requires
-    add-j
-    loop-less
+    (λ c. search needs)
+    (λ c. search needs)
     loop-again
     same-length
     returns)

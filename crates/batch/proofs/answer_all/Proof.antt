@@ -17,12 +17,6 @@ loop-holds c = tt
 answer-one-requires : tie.Need-answer-one-requires Inv-loop μ-loop
 answer-one-requires c κs = tt
 
-sub-turns : tie.Need-sub-turns Inv-loop μ-loop
-sub-turns c = omega arith
-
-loop-less : tie.Need-loop-less Inv-loop μ-loop
-loop-less c = omega arith
-
 loop-again : tie.Need-loop-again Inv-loop μ-loop
 loop-again c = tt
 
@@ -33,4 +27,4 @@ returns-2 : tie.Need-returns-2 Inv-loop μ-loop
 returns-2 c = tt
 
 pub answer-all-spec : {M : Type 1} → statement M
-answer-all-spec = tie.close (tie.spec Inv-loop μ-loop loop-holds answer-one-requires sub-turns loop-less loop-again returns returns-2)
+answer-all-spec = tie.close (tie.spec Inv-loop μ-loop loop-holds answer-one-requires (λ c. omega arith) (λ c. omega arith) loop-again returns returns-2)

@@ -19,26 +19,14 @@ passed c = sym (c .before .before .check-head .ensures) ∙ c .enum-told .given 
 sized : (c : tie.After-enum-told) → (length (c .before .before .before .before .args .block .now) ≡ blockSize) × (countByte (c .before .before .before .before .args .block .now) ≤ mostTasks)
 sized c = (head-length _ _ (passed c), headed-count (c .before .before .before .before .args .side) _ (head-headed _ _ (passed c)))
 
-check-head-requires : tie.Need-check-head-requires
-check-head-requires c κs = search needs
-
-enum-known-a : tie.Need-enum-known-a
-enum-known-a c = search needs
-
 returns : tie.Need-returns
 unfolding blockVerdict
 returns c =
     sym (first-stop _ _ _ (sym (c .before .before .before .check-head .ensures) ∙ c .before .a .given .1))
 
-enum-told : tie.Need-enum-told
-enum-told c = search needs
-
 shared-slice-read-count : tie.Need-shared-slice-read-count
 shared-slice-read-count c =
     omega (arith, sized (c .before))
-
-count-requires : tie.Need-count-requires
-count-requires c κs = search needs
 
 check-body-requires : tie.Need-check-body-requires
 check-body-requires c κs =
@@ -53,11 +41,11 @@ pub check-block-spec : {M : Type 1} → statement M
 check-block-spec =
     tie.close
     (tie.spec
-    check-head-requires
-    enum-known-a
+    (λ c κs. search needs)
+    (λ c. search needs)
     returns
-    enum-told
+    (λ c. search needs)
     shared-slice-read-count
-    count-requires
+    (λ c κs. search needs)
     check-body-requires
     returns-2)

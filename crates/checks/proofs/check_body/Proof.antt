@@ -13,56 +13,17 @@ use Rattle.checks.proofs.check_body.Tie as tie
 told : (c : tie.After-enum-told2) → firstOf (eachRecord (c .before .before .before .before .before .before .before .args .side) (c .before .before .before .before .before .before .before .args .block .now) (c .before .before .before .before .before .before .before .args .n) ++ eachDouble (c .before .before .before .before .before .before .before .args .side) (tasksIn (c .before .before .before .before .before .before .before .args .block .now) (c .before .before .before .before .before .before .before .args .n))) ≡ Passed
 told c = first-on _ _ (sym (c .before .before .before .before .before .check-records .ensures) ∙ c .before .before .before .enum-told .given .1) ∙ sym (c .before .before .check-doubles .ensures) ∙ c .enum-told2 .given .1
 
-check-records-requires : tie.Need-check-records-requires
-check-records-requires c κs = search needs
-
-enum-known-a : tie.Need-enum-known-a
-enum-known-a c = search needs
-
 returns : tie.Need-returns
 returns c =
     sym (first-stop _ _ _ (first-stop _ _ _ (sym (c .before .before .before .check-records .ensures) ∙ c .before .a .given .1)))
-
-enum-told : tie.Need-enum-told
-enum-told c = search needs
-
-check-doubles-requires : tie.Need-check-doubles-requires
-check-doubles-requires c κs = search needs
-
-enum-known-a-2 : tie.Need-enum-known-a-2
-enum-known-a-2 c = search needs
 
 returns-2 : tie.Need-returns-2
 returns-2 c =
     sym (first-stop _ _ _ (first-on _ _ (sym (c .before .before .before .before .before .before .check-records .ensures) ∙ c .before .before .before .before .enum-told .given .1) ∙ sym (c .before .before .before .check-doubles .ensures) ∙ c .before .a2 .given .1))
 
-enum-told-2 : tie.Need-enum-told-2
-enum-told-2 c = search needs
-
-mul-room : tie.Need-mul-room
-mul-room c = search needs
-
-add-room : tie.Need-add-room
-add-room c = search needs
-
-sub-all-zero : tie.Need-sub-all-zero
-sub-all-zero c = search needs
-
-part-all-zero-start : tie.Need-part-all-zero-start
-part-all-zero-start c = search needs
-
-part-all-zero-end : tie.Need-part-all-zero-end
-part-all-zero-end c = search needs
-
-all-zero-requires : tie.Need-all-zero-requires
-all-zero-requires c κs = search needs
-
 returns-3 : tie.Need-returns-3
 returns-3 c =
     sym (first-last _ _ _ (told (c .before .before .before)) (ap (λ (t : Bool). refuse (not t) (refusal 7 (c .before .before .before .before .before .before .before .before .before .before .args .side) 0)) (sym (c .before .all-zero .ensures) ∙ c .if1 .taken)))
-
-refused-requires : tie.Need-refused-requires
-refused-requires c κs = search needs
 
 returns-4 : tie.Need-returns-4
 returns-4 c =
@@ -72,20 +33,20 @@ pub check-body-spec : {M : Type 1} → statement M
 check-body-spec =
     tie.close
     (tie.spec
-    check-records-requires
-    enum-known-a
+    (λ c κs. search needs)
+    (λ c. search needs)
     returns
-    enum-told
-    check-doubles-requires
-    enum-known-a-2
+    (λ c. search needs)
+    (λ c κs. search needs)
+    (λ c. search needs)
     returns-2
-    enum-told-2
-    mul-room
-    add-room
-    sub-all-zero
-    part-all-zero-start
-    part-all-zero-end
-    all-zero-requires
+    (λ c. search needs)
+    (λ c. search needs)
+    (λ c. search needs)
+    (λ c. search needs)
+    (λ c. search needs)
+    (λ c. search needs)
+    (λ c κs. search needs)
     returns-3
-    refused-requires
+    (λ c κs. search needs)
     returns-4)

@@ -30,15 +30,6 @@ unfolding firstOf upTo
 loop-holds c =
     (search needs, refl)
 
-is-borne-requires : tie.Need-is-borne-requires Inv-loop μ-loop
-is-borne-requires c κs = search needs
-
-cast-refused : tie.Need-cast-refused Inv-loop μ-loop
-cast-refused c = search needs
-
-refused-requires : tie.Need-refused-requires Inv-loop μ-loop
-refused-requires c κs = search needs
-
 returns : tie.Need-returns Inv-loop μ-loop
 returns c =
     let a = c .before .before .before .before .before .before .args in
@@ -50,13 +41,6 @@ returns c =
     ∙ each-stop (doubleCheck (a .side) (tasksIn (a .block .now) (a .n))) (a .n) (l .k) _ (omega arith) (l .inv .1)
     (double-is f (a .side) (a .n) (l .k) (omega arith) ∙ ap (λ (t : Bool). refuse t (refusal 6 (a .side) (l .k))) (sym (c .before .before .is-borne .ensures) ∙ c .before .if1 .taken))
     )
-
-add-k : tie.Need-add-k Inv-loop μ-loop
-add-k c = search needs
-
-loop-less : tie.Need-loop-less Inv-loop μ-loop
-loop-less c =
-    search needs
 
 loop-again : tie.Need-loop-again Inv-loop μ-loop
 loop-again c =
@@ -81,11 +65,11 @@ check-doubles-spec =
     Inv-loop
     μ-loop
     loop-holds
-    is-borne-requires
-    cast-refused
-    refused-requires
+    (λ c κs. search needs)
+    (λ c. search needs)
+    (λ c κs. search needs)
     returns
-    add-k
-    loop-less
+    (λ c. search needs)
+    (λ c. search needs)
     loop-again
     returns-2)

@@ -6,41 +6,17 @@ use borrow.Author.Needs.{needs}
 use Rattle.heads.proofs.check_head.Statement.{statement}
 use Rattle.heads.proofs.check_head.Tie as tie
 
-refused-requires : tie.Need-refused-requires
-refused-requires c κs = search needs
-
 returns : tie.Need-returns
 returns c =
     c .refused .ensures ∙ sym (head-short _ _ (ne-eqb _ _ (c .before .if1 .taken)))
-
-word-at-requires : tie.Need-word-at-requires
-word-at-requires c κs = search needs
-
-check-of-requires : tie.Need-check-of-requires
-check-of-requires c κs = search needs
-
-refused-requires-2 : tie.Need-refused-requires-2
-refused-requires-2 c κs = search needs
 
 returns-2 : tie.Need-returns-2
 returns-2 c =
     c .refused2 .ensures ∙ sym (head-unsealed _ _ (eq-eqb _ _ (c .before .before .before .before .if1 .left)) (sealed-as _ _ _ _ (c .before .before .before .word-at .ensures .0) (c .before .before .check-of .ensures) (ne-eqb _ _ (c .before .if2 .taken))))
 
-is-marked-requires : tie.Need-is-marked-requires
-is-marked-requires c κs = search needs
-
-refused-requires-3 : tie.Need-refused-requires-3
-refused-requires-3 c κs = search needs
-
 returns-3 : tie.Need-returns-3
 returns-3 c =
     c .refused3 .ensures ∙ sym (head-unmarked _ _ (eq-eqb _ _ (c .before .before .before .before .before .before .if1 .left)) (sealed-as _ _ _ _ (c .before .before .before .before .before .word-at .ensures .0) (c .before .before .before .before .check-of .ensures) (eq-eqb _ _ (c .before .before .before .if2 .left))) (sym (c .before .before .is-marked .ensures) ∙ not-true _ (c .before .if3 .taken)))
-
-is-headed-requires : tie.Need-is-headed-requires
-is-headed-requires c κs = search needs
-
-refused-requires-4 : tie.Need-refused-requires-4
-refused-requires-4 c κs = search needs
 
 returns-4 : tie.Need-returns-4
 returns-4 c =
@@ -54,16 +30,16 @@ pub check-head-spec : {M : Type 1} → statement M
 check-head-spec =
     tie.close
     (tie.spec
-    refused-requires
+    (λ c κs. search needs)
     returns
-    word-at-requires
-    check-of-requires
-    refused-requires-2
+    (λ c κs. search needs)
+    (λ c κs. search needs)
+    (λ c κs. search needs)
     returns-2
-    is-marked-requires
-    refused-requires-3
+    (λ c κs. search needs)
+    (λ c κs. search needs)
     returns-3
-    is-headed-requires
-    refused-requires-4
+    (λ c κs. search needs)
+    (λ c κs. search needs)
     returns-4
     returns-5)

@@ -4,15 +4,9 @@ use borrow.Author.Needs.{needs}
 use Rattle.heads.proofs.is_marked.Statement.{statement}
 use Rattle.heads.proofs.is_marked.Tie as tie
 
-shared-slice-read-if1 : tie.Need-shared-slice-read-if1
-shared-slice-read-if1 c = search needs
-
 returns : tie.Need-returns
 returns c =
     rw (ne-eqb _ _ (c .if1 .taken))
-
-shared-slice-read-result : tie.Need-shared-slice-read-result
-shared-slice-read-result c = search needs
 
 returns-2 : tie.Need-returns-2
 returns-2 c =
@@ -20,4 +14,4 @@ returns-2 c =
 
 pub is-marked-spec : {M : Type 1} → statement M
 is-marked-spec =
-    tie.close (tie.spec shared-slice-read-if1 returns shared-slice-read-result returns-2)
+    tie.close (tie.spec (λ c. search needs) returns (λ c. search needs) returns-2)

@@ -6,32 +6,20 @@ use borrow.Author.Needs.{needs}
 use Rattle.lists.proofs.check_list.Statement.{statement}
 use Rattle.lists.proofs.check_list.Tie as tie
 
-refused-requires : tie.Need-refused-requires
-refused-requires c κs = search needs
-
 returns : tie.Need-returns
 unfolding firstOf listHead
 returns c =
     simp (c .refused .ensures, ne-eqb _ _ (c .before .if1 .taken))
-
-refused-requires-2 : tie.Need-refused-requires-2
-refused-requires-2 c κs = search needs
 
 returns-2 : tie.Need-returns-2
 unfolding firstOf listHead
 returns-2 c =
     simp (c .refused2 .ensures, eq-eqb _ _ (c .before .before .if1 .left), ne-eqb _ _ (c .before .if2 .taken))
 
-refused-requires-3 : tie.Need-refused-requires-3
-refused-requires-3 c κs = search needs
-
 returns-3 : tie.Need-returns-3
 unfolding firstOf listHead
 returns-3 c =
     simp (c .refused3 .ensures, eq-eqb _ _ (c .before .before .before .if1 .left), eq-eqb _ _ (c .before .before .if2 .left), lt-leb _ _ (c .before .if3 .taken))
-
-refused-requires-4 : tie.Need-refused-requires-4
-refused-requires-4 c κs = search needs
 
 returns-4 : tie.Need-returns-4
 unfolding firstOf listHead
@@ -47,12 +35,12 @@ pub check-list-spec : {M : Type 1} → statement M
 check-list-spec =
     tie.close
     (tie.spec
-    refused-requires
+    (λ c κs. search needs)
     returns
-    refused-requires-2
+    (λ c κs. search needs)
     returns-2
-    refused-requires-3
+    (λ c κs. search needs)
     returns-3
-    refused-requires-4
+    (λ c κs. search needs)
     returns-4
     returns-5)

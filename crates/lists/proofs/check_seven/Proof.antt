@@ -7,23 +7,14 @@ use borrow.Author.Needs.{needs}
 use Rattle.lists.proofs.check_seven.Statement.{statement}
 use Rattle.lists.proofs.check_seven.Tie as tie
 
-are-fit-requires : tie.Need-are-fit-requires
-are-fit-requires c κs = search needs
-
 task-from-requires : tie.Need-task-from-requires
 task-from-requires c κs =
     (c .before .before .before .pre, sym (c .before .are-fit .ensures) ∙ c .if1 .taken)
-
-check-task-requires : tie.Need-check-task-requires
-check-task-requires c κs = search needs
 
 returns : tie.Need-returns
 unfolding firstOf
 returns c =
     simp (← c .before .before .before .are-fit .ensures, c .before .before .if1 .taken) (c .check-task .ensures ∙ ap (λ (x : Task). firstOf (taskChecks (c .before .before .before .before .before .args .side) (c .before .before .before .before .before .args .k) x)) (c .before .task-from .ensures))
-
-refused-requires : tie.Need-refused-requires
-refused-requires c κs = search needs
 
 returns-2 : tie.Need-returns-2
 unfolding firstOf
@@ -34,9 +25,9 @@ pub check-seven-spec : {M : Type 1} → statement M
 check-seven-spec =
     tie.close
     (tie.spec
-    are-fit-requires
+    (λ c κs. search needs)
     task-from-requires
-    check-task-requires
+    (λ c κs. search needs)
     returns
-    refused-requires
+    (λ c κs. search needs)
     returns-2)

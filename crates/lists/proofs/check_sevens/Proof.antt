@@ -25,47 +25,11 @@ unfolding firstOf upTo
 loop-holds c =
     (search needs, refl)
 
-mul-at : tie.Need-mul-at Inv-loop μ-loop
-mul-at c = search needs
-
-add-check-seven : tie.Need-add-check-seven Inv-loop μ-loop
-add-check-seven c = search needs
-
-mul-check-seven : tie.Need-mul-check-seven Inv-loop μ-loop
-mul-check-seven c = search needs
-
-sub-check-seven : tie.Need-sub-check-seven Inv-loop μ-loop
-sub-check-seven c = search needs
-
-part-check-seven-start : tie.Need-part-check-seven-start Inv-loop μ-loop
-part-check-seven-start c = search needs
-
-part-check-seven-end : tie.Need-part-check-seven-end Inv-loop μ-loop
-part-check-seven-end c = search needs
-
-cast-check-seven : tie.Need-cast-check-seven Inv-loop μ-loop
-cast-check-seven c = search needs
-
-check-seven-requires : tie.Need-check-seven-requires Inv-loop μ-loop
-check-seven-requires c κs = search needs
-
-enum-known-a : tie.Need-enum-known-a Inv-loop μ-loop
-enum-known-a c = search needs
-
 returns : tie.Need-returns Inv-loop μ-loop
 returns c =
     let a = c .before .before .before .before .before .before .before .before .args in
     let l = c .before .before .before .before .before .before .loop in
     sym (each-stop (λ k. firstOf (numberChecks (a .side) k (numbersPart (a .list .now) k))) (a .n) (l .k) _ (omega arith) (l .inv .1) (sym (c .before .before .before .check-seven .ensures) ∙ c .before .a .given .1))
-
-enum-told : tie.Need-enum-told Inv-loop μ-loop
-enum-told c = search needs
-
-add-k : tie.Need-add-k Inv-loop μ-loop
-add-k c = search needs
-
-loop-less : tie.Need-loop-less Inv-loop μ-loop
-loop-less c = search needs
 
 loop-again : tie.Need-loop-again Inv-loop μ-loop
 loop-again c =
@@ -87,18 +51,18 @@ check-sevens-spec =
     Inv-loop
     μ-loop
     loop-holds
-    mul-at
-    add-check-seven
-    mul-check-seven
-    sub-check-seven
-    part-check-seven-start
-    part-check-seven-end
-    cast-check-seven
-    check-seven-requires
-    enum-known-a
+    (λ c. search needs)
+    (λ c. search needs)
+    (λ c. search needs)
+    (λ c. search needs)
+    (λ c. search needs)
+    (λ c. search needs)
+    (λ c. search needs)
+    (λ c κs. search needs)
+    (λ c. search needs)
     returns
-    enum-told
-    add-k
-    loop-less
+    (λ c. search needs)
+    (λ c. search needs)
+    (λ c. search needs)
     loop-again
     returns-2)

@@ -7,36 +7,6 @@ use borrow.Author.Needs.{needs}
 use Rattle.numbers.proofs.put_numbers.Statement.{statement}
 use Rattle.numbers.proofs.put_numbers.Tie as tie
 
-number-requires : tie.Need-number-requires
-number-requires c κs = search needs
-
-number-requires-2 : tie.Need-number-requires-2
-number-requires-2 c κs = search needs
-
-whole-requires : tie.Need-whole-requires
-whole-requires c κs = search needs
-
-whole-requires-2 : tie.Need-whole-requires-2
-whole-requires-2 c κs = search needs
-
-whole-requires-3 : tie.Need-whole-requires-3
-whole-requires-3 c κs = search needs
-
-whole-requires-4 : tie.Need-whole-requires-4
-whole-requires-4 c κs = search needs
-
-whole-requires-5 : tie.Need-whole-requires-5
-whole-requires-5 c κs = search needs
-
-slice-aggregate-copy-numbers : tie.Need-slice-aggregate-copy-numbers
-slice-aggregate-copy-numbers c = search needs
-
-copy-numbers-requires : tie.Need-copy-numbers-requires
-copy-numbers-requires c κs = search needs
-
-same-length : tie.Need-same-length
-same-length c = search needs
-
 returns : tie.Need-returns
 unfolding numbersOf
 returns c =
@@ -57,14 +27,14 @@ pub put-numbers-spec : {M : Type 1} → statement M
 put-numbers-spec =
     tie.close
     (tie.spec
-    number-requires
-    number-requires-2
-    whole-requires
-    whole-requires-2
-    whole-requires-3
-    whole-requires-4
-    whole-requires-5
-    slice-aggregate-copy-numbers
-    copy-numbers-requires
-    same-length
+    (λ c κs. search needs)
+    (λ c κs. search needs)
+    (λ c κs. search needs)
+    (λ c κs. search needs)
+    (λ c κs. search needs)
+    (λ c κs. search needs)
+    (λ c κs. search needs)
+    (λ c. search needs)
+    (λ c κs. search needs)
+    (λ c. search needs)
     returns)

@@ -15,50 +15,23 @@ old-passed c = sym (c .before .before .check-block .ensures) ∙ c .enum-told .g
 new-passed : (c : tie.After-enum-told2) → blockVerdict 1 (c .before .before .before .before .before .before .before .before .before .args .new .now) ≡ Passed
 new-passed c = sym (c .before .before .check-block2 .ensures) ∙ c .enum-told2 .given .1
 
-check-block-requires : tie.Need-check-block-requires
-check-block-requires c κs = search needs
-
-enum-known-a : tie.Need-enum-known-a
-enum-known-a c = search needs
-
 returns : tie.Need-returns
 returns c =
     parts _ _ (analyse-old _ _ _ _ (verdict-spoilt 0 _ _ (sym (c .before .before .before .check-block .ensures) ∙ c .before .a .given .1))) refl refl
-
-enum-told : tie.Need-enum-told
-enum-told c = search needs
-
-check-block-requires-2 : tie.Need-check-block-requires-2
-check-block-requires-2 c κs = search needs
-
-enum-known-a-2 : tie.Need-enum-known-a-2
-enum-known-a-2 c = search needs
 
 returns-2 : tie.Need-returns-2
 returns-2 c =
     parts _ _ (analyse-new _ _ _ _ _ _ (verdict-holds 0 _ (old-passed (c .before .before .before .before))) (verdict-spoilt 1 _ _ (sym (c .before .before .before .check-block2 .ensures) ∙ c .before .a2 .given .1))) refl refl
 
-enum-told-2 : tie.Need-enum-told-2
-enum-told-2 c = search needs
-
 shared-slice-read-count : tie.Need-shared-slice-read-count
 shared-slice-read-count c = omega (arith, block-length _ _ (old-passed (c .before .before .before .before)))
-
-count-requires : tie.Need-count-requires
-count-requires c κs = search needs
 
 shared-slice-read-count-2 : tie.Need-shared-slice-read-count-2
 shared-slice-read-count-2 c = omega (arith, block-length _ _ (new-passed (c .before .before .before)))
 
-count-requires-2 : tie.Need-count-requires-2
-count-requires-2 c κs = search needs
-
 add-if1 : tie.Need-add-if1
 add-if1 c =
     omega (arith, c .count2 .ensures, c .before .before .count .ensures, block-count _ _ (old-passed (c .before .before .before .before .before .before .before)), block-count _ _ (new-passed (c .before .before .before .before)))
-
-plain-requires : tie.Need-plain-requires
-plain-requires c κs = search needs
 
 returns-3 : tie.Need-returns-3
 returns-3 c =
@@ -73,9 +46,6 @@ settle-requires : tie.Need-settle-requires
 settle-requires c κs =
     (block-held 0 _ (old-passed (c .before .before .before .before .before .before .before .before .before)) _ (c .before .before .before .before .count .ensures), block-held 1 _ (new-passed (c .before .before .before .before .before .before)) _ (c .before .before .count2 .ensures))
 
-same-length : tie.Need-same-length
-same-length c = search needs
-
 returns-4 : tie.Need-returns-4
 returns-4 c =
     parts _ _
@@ -87,21 +57,21 @@ pub analyse-spec : {M : Type 1} → statement M
 analyse-spec =
     tie.close
     (tie.spec
-    check-block-requires
-    enum-known-a
+    (λ c κs. search needs)
+    (λ c. search needs)
     returns
-    enum-told
-    check-block-requires-2
-    enum-known-a-2
+    (λ c. search needs)
+    (λ c κs. search needs)
+    (λ c. search needs)
     returns-2
-    enum-told-2
+    (λ c. search needs)
     shared-slice-read-count
-    count-requires
+    (λ c κs. search needs)
     shared-slice-read-count-2
-    count-requires-2
+    (λ c κs. search needs)
     add-if1
-    plain-requires
+    (λ c κs. search needs)
     returns-3
     settle-requires
-    same-length
+    (λ c. search needs)
     returns-4)

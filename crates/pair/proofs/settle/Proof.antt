@@ -23,9 +23,6 @@ add-if1 c = omega (arith, small (c .before .before .before))
 mul-if1 : tie.Need-mul-if1
 mul-if1 c = omega (arith, small (c .before .before .before))
 
-plain-requires-1 : tie.Need-plain-requires
-plain-requires-1 c κs = search needs
-
 returns-1 : tie.Need-returns
 returns-1 c =
     parts _ _ (pair-short _ _ _ (omega (arith, sized (c .before .before .before .before .before), c .before .if1 .taken))) (c .plain .ensures) refl
@@ -40,20 +37,11 @@ enum-known-a c = search needs
 enum-told : tie.Need-enum-told
 enum-told c = search needs
 
-plain-requires-2 : tie.Need-plain-requires-2
-plain-requires-2 c κs = search needs
-
-same-length : tie.Need-same-length
-same-length c = search needs
-
 returns-2 : tie.Need-returns-2
 returns-2 c =
     let e = c .before .a .given .1 in
     let f = c .before .before .before .before .before .rows-of .ensures in
     parts _ _ (pair-late _ _ _ _ (omega (arith, sized (c .before .before .before .before .before .before .before .before .before .before .before), c .before .before .before .before .before .before .before .if1 .left)) (sym (f .0) ∙ e)) refl (rw e at (f .1))
-
-same-length-2 : tie.Need-same-length-2
-same-length-2 c = search needs
 
 returns-3 : tie.Need-returns-3
 returns-3 c =
@@ -67,13 +55,13 @@ settle-spec =
     (tie.spec
     add-if1
     mul-if1
-    plain-requires-1
+    (λ c κs. search needs)
     returns-1
     rows-of-requires
     enum-known-a
     enum-told
-    plain-requires-2
-    same-length
+    (λ c κs. search needs)
+    (λ c. search needs)
     returns-2
-    same-length-2
+    (λ c. search needs)
     returns-3)

@@ -6,21 +6,6 @@ use borrow.Author.Needs.{needs}
 use Rattle.puts.proofs.put_head.Statement.{statement}
 use Rattle.puts.proofs.put_head.Tie as tie
 
-cast-t7 : tie.Need-cast-t7
-cast-t7 c = search needs
-
-cast-t10 : tie.Need-cast-t10
-cast-t10 c = search needs
-
-slice-aggregate-copy-bytes : tie.Need-slice-aggregate-copy-bytes
-slice-aggregate-copy-bytes c = search needs
-
-copy-bytes-requires : tie.Need-copy-bytes-requires
-copy-bytes-requires c κs = search needs
-
-same-length : tie.Need-same-length
-same-length c = search needs
-
 returns : tie.Need-returns
 unfolding headOf
 returns c =
@@ -29,4 +14,4 @@ returns c =
 pub put-head-spec : {M : Type 1} → statement M
 put-head-spec =
     tie.close
-    (tie.spec cast-t7 cast-t10 slice-aggregate-copy-bytes copy-bytes-requires same-length returns)
+    (tie.spec (λ c. search needs) (λ c. search needs) (λ c. search needs) (λ c κs. search needs) (λ c. search needs) returns)

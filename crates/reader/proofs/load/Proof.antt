@@ -11,18 +11,6 @@ use Rattle.reader.proofs.load.Tie as tie
 passed : (c : tie.After-enum-told) → blockVerdict (c .before .before .before .before .args .side) (c .before .before .before .before .args .block .now) ≡ Passed
 passed c = sym (c .before .before .check-block .ensures) ∙ c .enum-told .given .1
 
-check-block-requires : tie.Need-check-block-requires
-check-block-requires c κs = search needs
-
-enum-known-a : tie.Need-enum-known-a
-enum-known-a c = search needs
-
-no-tasks-requires : tie.Need-no-tasks-requires
-no-tasks-requires c κs = search needs
-
-enum-told : tie.Need-enum-told
-enum-told c = search needs
-
 half-at-requires : tie.Need-half-at-requires
 half-at-requires c κs =
     omega (arith, block-length _ _ (passed c))
@@ -30,9 +18,6 @@ half-at-requires c κs =
 shared-slice-read-count : tie.Need-shared-slice-read-count
 shared-slice-read-count c =
     omega (arith, block-length _ _ (passed (c .before .before)))
-
-count-requires : tie.Need-count-requires
-count-requires c κs = search needs
 
 table-of-requires : tie.Need-table-of-requires
 table-of-requires c κs =
@@ -52,13 +37,13 @@ pub load-spec : {M : Type 1} → statement M
 load-spec =
     tie.close
     (tie.spec
-    check-block-requires
-    enum-known-a
-    no-tasks-requires
-    enum-told
+    (λ c κs. search needs)
+    (λ c. search needs)
+    (λ c κs. search needs)
+    (λ c. search needs)
     half-at-requires
     shared-slice-read-count
-    count-requires
+    (λ c κs. search needs)
     table-of-requires
     returns
     returns-2)

@@ -16,35 +16,17 @@ use Rattle.reader.proofs.read.Tie as tie
 passed : (c : tie.After-enum-told) → blockVerdict (c .before .before .before .before .before .args .side) (c .before .before .before .before .before .args .block .now) ≡ Passed
 passed c = sym (c .before .before .check-block .ensures) ∙ c .enum-told .given .1
 
-check-block-requires : tie.Need-check-block-requires
-check-block-requires c κs = search needs
-
-enum-known-a : tie.Need-enum-known-a
-enum-known-a c = search needs
-
-enum-told : tie.Need-enum-told
-enum-told c = search needs
-
 half-at-requires : tie.Need-half-at-requires
 half-at-requires c κs =
     omega (arith, block-length _ _ (passed c))
-
-whole-requires : tie.Need-whole-requires
-whole-requires c κs = search needs
 
 shared-slice-read-number : tie.Need-shared-slice-read-number
 shared-slice-read-number c =
     omega (arith, block-length _ _ (passed (c .before .before .before)))
 
-number-requires : tie.Need-number-requires
-number-requires c κs = search needs
-
 shared-slice-read-count : tie.Need-shared-slice-read-count
 shared-slice-read-count c =
     omega (arith, block-length _ _ (passed (c .before .before .before .before .before)))
-
-count-requires : tie.Need-count-requires
-count-requires c κs = search needs
 
 mul-if1 : tie.Need-mul-if1
 mul-if1 c =
@@ -61,9 +43,6 @@ put-tasks-requires c κs =
 returns-2 : tie.Need-returns-2
 returns-2 c =
     both _ _ (read-refused _ _ _ _ (sym (c .before .before .before .check-block .ensures) ∙ c .before .a .given .1)) refl refl
-
-same-length : tie.Need-same-length
-same-length c = search needs
 
 returns-3 : tie.Need-returns-3
 returns-3 c =
@@ -83,18 +62,18 @@ pub read-spec : {M : Type 1} → statement M
 read-spec =
     tie.close
     (tie.spec
-    check-block-requires
-    enum-known-a
-    enum-told
+    (λ c κs. search needs)
+    (λ c. search needs)
+    (λ c. search needs)
     half-at-requires
-    whole-requires
+    (λ c κs. search needs)
     shared-slice-read-number
-    number-requires
+    (λ c κs. search needs)
     shared-slice-read-count
-    count-requires
+    (λ c κs. search needs)
     mul-if1
     returns
     put-tasks-requires
     returns-2
-    same-length
+    (λ c. search needs)
     returns-3)

@@ -6,22 +6,10 @@ use borrow.Author.Needs.{needs}
 use Rattle.records.proofs.are_alike.Statement.{statement}
 use Rattle.records.proofs.are_alike.Tie as tie
 
-half-at-requires : tie.Need-half-at-requires
-half-at-requires c κs = search needs
-
-half-at-requires-2 : tie.Need-half-at-requires-2
-half-at-requires-2 c κs = search needs
-
 returns : tie.Need-returns
 unfolding alike taskOf
 returns c =
     simp (← c .before .before .half-at .ensures, ← c .before .half-at2 .ensures, eq-eqb _ _ (c .if1 .taken))
-
-shared-slice-read-result : tie.Need-shared-slice-read-result
-shared-slice-read-result c = search needs
-
-shared-slice-read-result-2 : tie.Need-shared-slice-read-result-2
-shared-slice-read-result-2 c = search needs
 
 returns-2 : tie.Need-returns-2
 unfolding alike taskOf
@@ -32,9 +20,9 @@ pub are-alike-spec : {M : Type 1} → statement M
 are-alike-spec =
     tie.close
     (tie.spec
-    half-at-requires
-    half-at-requires-2
+    (λ c κs. search needs)
+    (λ c κs. search needs)
     returns
-    shared-slice-read-result
-    shared-slice-read-result-2
+    (λ c. search needs)
+    (λ c. search needs)
     returns-2)

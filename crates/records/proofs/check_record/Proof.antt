@@ -13,36 +13,9 @@ use Rattle.records.proofs.check_record.Tie as tie
 rules : (c : tie.After-check-task) → firstOf (taskChecks (c .before .before .before .args .side) (c .before .before .before .args .k) (taskOf (c .before .before .before .args .rec .now))) ≡ c .check-task .result
 rules c = ap (λ (x : Task). firstOf (taskChecks (c .before .before .before .args .side) (c .before .before .before .args .k) x)) (sym (c .before .record-at .ensures)) ∙ sym (c .check-task .ensures)
 
-record-at-requires : tie.Need-record-at-requires
-record-at-requires c κs = search needs
-
-check-task-requires : tie.Need-check-task-requires
-check-task-requires c κs = search needs
-
-enum-known-a : tie.Need-enum-known-a
-enum-known-a c = search needs
-
-enum-told : tie.Need-enum-told
-enum-told c = search needs
-
-sub-all-zero : tie.Need-sub-all-zero
-sub-all-zero c = search needs
-
-part-all-zero-start : tie.Need-part-all-zero-start
-part-all-zero-start c = search needs
-
-part-all-zero-end : tie.Need-part-all-zero-end
-part-all-zero-end c = search needs
-
-all-zero-requires : tie.Need-all-zero-requires
-all-zero-requires c κs = search needs
-
 returns : tie.Need-returns
 returns c =
     sym (first-last _ _ _ (rules (c .before .before .before .before .before) ∙ c .before .before .before .enum-told .given .1) (ap (λ (t : Bool). refuse (not t) (refusal 5 (c .before .before .before .before .before .before .before .before .args .side) (c .before .before .before .before .before .before .before .before .args .k))) (sym (c .before .all-zero .ensures) ∙ c .if1 .taken)))
-
-refused-requires : tie.Need-refused-requires
-refused-requires c κs = search needs
 
 returns-2 : tie.Need-returns-2
 returns-2 c =
@@ -56,15 +29,15 @@ pub check-record-spec : {M : Type 1} → statement M
 check-record-spec =
     tie.close
     (tie.spec
-    record-at-requires
-    check-task-requires
-    enum-known-a
-    enum-told
-    sub-all-zero
-    part-all-zero-start
-    part-all-zero-end
-    all-zero-requires
+    (λ c κs. search needs)
+    (λ c κs. search needs)
+    (λ c. search needs)
+    (λ c. search needs)
+    (λ c. search needs)
+    (λ c. search needs)
+    (λ c. search needs)
+    (λ c κs. search needs)
     returns
-    refused-requires
+    (λ c κs. search needs)
     returns-2
     returns-3)

@@ -4,27 +4,6 @@ use borrow.Author.Needs.{needs}
 use Rattle.records.proofs.record_at.Statement.{statement}
 use Rattle.records.proofs.record_at.Tie as tie
 
-shared-slice-read-t3 : tie.Need-shared-slice-read-t3
-shared-slice-read-t3 c = search needs
-
-shared-slice-read-t5 : tie.Need-shared-slice-read-t5
-shared-slice-read-t5 c = search needs
-
-half-at-requires : tie.Need-half-at-requires
-half-at-requires c κs = search needs
-
-half-at-requires-2 : tie.Need-half-at-requires-2
-half-at-requires-2 c κs = search needs
-
-half-at-requires-3 : tie.Need-half-at-requires-3
-half-at-requires-3 c κs = search needs
-
-half-at-requires-4 : tie.Need-half-at-requires-4
-half-at-requires-4 c κs = search needs
-
-half-at-requires-5 : tie.Need-half-at-requires-5
-half-at-requires-5 c κs = search needs
-
 returns : tie.Need-returns
 unfolding taskOf
 returns c =
@@ -43,11 +22,11 @@ pub record-at-spec : {M : Type 1} → statement M
 record-at-spec =
     tie.close
     (tie.spec
-    shared-slice-read-t3
-    shared-slice-read-t5
-    half-at-requires
-    half-at-requires-2
-    half-at-requires-3
-    half-at-requires-4
-    half-at-requires-5
+    (λ c. search needs)
+    (λ c. search needs)
+    (λ c κs. search needs)
+    (λ c κs. search needs)
+    (λ c κs. search needs)
+    (λ c κs. search needs)
+    (λ c κs. search needs)
     returns)

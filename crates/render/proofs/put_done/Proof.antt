@@ -11,12 +11,6 @@ use native.Mathlib.Omega.{arith}
 use Rattle.render.proofs.put_done.Statement.{statement}
 use Rattle.render.proofs.put_done.Tie as tie
 
-whole-requires : tie.Need-whole-requires
-whole-requires c κs = search needs
-
-whole-requires-2 : tie.Need-whole-requires-2
-whole-requires-2 c κs = search needs
-
 -- where the first line is written
 change-at : (c : tie.After-put-line) → (c .put-line .result ≡ 0 + length (changeLine (c .before .before .before .before .before .before .before .before .args .a) (c .before .before .before .before .before .before .before .before .args .b))) × (c .put-line .last .0 ≡ put (c .before .before .before .before .before .before .before .before .args .text .now) 0 (changeLine (c .before .before .before .before .before .before .before .before .args .a) (c .before .before .before .before .before .before .before .before .args .b))) × (length (changeLine (c .before .before .before .before .before .before .before .before .args .a) (c .before .before .before .before .before .before .before .before .args .b)) ≤ 19)
 change-at c =
@@ -35,15 +29,6 @@ few-olds c = few (c .args .olds) (sym (length-map (c .args .olds .tasks) _) ∙ 
 few-news : (c : tie.Start) → c .args .news .count ≤ 30
 few-news c = few (c .args .news) (sym (length-map (c .args .news .tasks) _) ∙ c .good .1 .1 .1 .1 .0 .1 .1 .0 .1 .0 .1) (c .pre .1)
 
-slice-aggregate-put-line : tie.Need-slice-aggregate-put-line
-slice-aggregate-put-line c = search needs
-
-slice-aggregate-put-line-2 : tie.Need-slice-aggregate-put-line-2
-slice-aggregate-put-line-2 c = search needs
-
-put-line-requires : tie.Need-put-line-requires
-put-line-requires c κs = search needs
-
 put-tasks-requires : tie.Need-put-tasks-requires
 put-tasks-requires c κs =
     let e = change-at (c .before .before .before) in
@@ -54,9 +39,6 @@ put-tasks-requires-2 c κs =
     let e = change-at (c .before .before .before .before .before .before .before) in
     let p = c .before .before .before .put-tasks in
     (c .before .before .before .before .before .before .before .before .before .before .before .before .before .before .before .pre .1, omega (arith, e .0, e .2, few-olds (c .before .before .before .before .before .before .before .before .before .before .before .before .before .before .before), few-news (c .before .before .before .before .before .before .before .before .before .before .before .before .before .before .before), p .ensures .0 .1, p .kept .0, c .before .before .before .before .before .before .before .put-line .kept .0, c .before .before .before .before .before .before .before .before .before .before .before .before .before .before .before .pre .2), omega (arith, few-olds (c .before .before .before .before .before .before .before .before .before .before .before .before .before .before .before), few-news (c .before .before .before .before .before .before .before .before .before .before .before .before .before .before .before), c .before .before .before .before .before .before .before .before .before .before .before .before .before .before .before .pre .3))
-
-same-length : tie.Need-same-length
-same-length c = search needs
 
 returns : tie.Need-returns
 returns c =
@@ -75,12 +57,12 @@ pub put-done-spec : {M : Type 1} → statement M
 put-done-spec =
     tie.close
     (tie.spec
-    whole-requires
-    whole-requires-2
-    slice-aggregate-put-line
-    slice-aggregate-put-line-2
-    put-line-requires
+    (λ c κs. search needs)
+    (λ c κs. search needs)
+    (λ c. search needs)
+    (λ c. search needs)
+    (λ c κs. search needs)
     put-tasks-requires
     put-tasks-requires-2
-    same-length
+    (λ c. search needs)
     returns)

@@ -7,27 +7,12 @@ use Rattle.rows.proofs.Bridge.{aborted-is}
 use Rattle.rows.proofs.aborted.Statement.{statement}
 use Rattle.rows.proofs.aborted.Tie as tie
 
-rank-of-requires : tie.Need-rank-of-requires
-rank-of-requires c κs = search needs
-
-gather-requires : tie.Need-gather-requires
-gather-requires c κs = search needs
-
-wider-requires : tie.Need-wider-requires
-wider-requires c κs = search needs
-
-wider-requires-2 : tie.Need-wider-requires-2
-wider-requires-2 c κs = search needs
-
 aborted-row-requires : tie.Need-aborted-row-requires
 aborted-row-requires c κs =
     let a = c .before .before .before .before .before .before .before .before .before .before .args in
     let g = c .before .before .before .before .before .gather .ensures in
     let q = c .before .before .before .before .before .before .before .before .before .before .pre in
     (rw (g .0, g .1) (terms-ready (a .olds .now) _ 4 (a .before .now) (a .n) (q .0 .0) (q .0 .1)), omega (arith, c .before .wider .ensures), omega (arith, c .before .wider .ensures, c .wider2 .ensures), omega (arith, c .wider2 .ensures))
-
-same-length : tie.Need-same-length
-same-length c = search needs
 
 returns : tie.Need-returns
 returns c =
@@ -42,10 +27,10 @@ pub aborted-spec : {M : Type 1} → statement M
 aborted-spec =
     tie.close
     (tie.spec
-    rank-of-requires
-    gather-requires
-    wider-requires
-    wider-requires-2
+    (λ c κs. search needs)
+    (λ c κs. search needs)
+    (λ c κs. search needs)
+    (λ c κs. search needs)
     aborted-row-requires
-    same-length
+    (λ c. search needs)
     returns)

@@ -6,21 +6,12 @@ use Rattle.rows.proofs.Windows.{steady-within}
 use Rattle.rows.proofs.aborted_row.Statement.{statement}
 use Rattle.rows.proofs.aborted_row.Tie as tie
 
-steady-requires : tie.Need-steady-requires
-steady-requires c κs = search needs
-
-enum-known-t : tie.Need-enum-known-t
-enum-known-t c = search needs
-
 timely-requires : tie.Need-timely-requires
 timely-requires c κs =
     let a = c .before .before .before .before .before .args in
     let e = closing-at _ _ (sym (c .before .before .before .steady .ensures) ∙ c .before .t .given .1) in
     let l = steady-within (a .old .now) (a .n) (a .c) (a .d) _ e in
     (omega arith, omega arith, omega arith)
-
-enum-told : tie.Need-enum-told
-enum-told c = search needs
 
 returns : tie.Need-returns
 returns c =
@@ -34,4 +25,4 @@ returns-2 c =
 
 pub aborted-row-spec : {M : Type 1} → statement M
 aborted-row-spec =
-    tie.close (tie.spec steady-requires enum-known-t timely-requires enum-told returns returns-2)
+    tie.close (tie.spec (λ c κs. search needs) (λ c. search needs) timely-requires (λ c. search needs) returns returns-2)

@@ -7,21 +7,6 @@ use Rattle.rows.proofs.Bridge.{completed-is}
 use Rattle.rows.proofs.completed.Statement.{statement}
 use Rattle.rows.proofs.completed.Tie as tie
 
-rank-of-requires : tie.Need-rank-of-requires
-rank-of-requires c κs = search needs
-
-gather-requires : tie.Need-gather-requires
-gather-requires c κs = search needs
-
-gather-requires-2 : tie.Need-gather-requires-2
-gather-requires-2 c κs = search needs
-
-wider-requires : tie.Need-wider-requires
-wider-requires c κs = search needs
-
-wider-requires-2 : tie.Need-wider-requires-2
-wider-requires-2 c κs = search needs
-
 completed-row-requires : tie.Need-completed-row-requires
 completed-row-requires c κs =
     let a = c .before .before .before .before .before .before .before .before .before .before .before .before .before .before .before .before .before .args in
@@ -29,12 +14,6 @@ completed-row-requires c κs =
     let h = c .before .before .before .before .before .before .gather2 .ensures in
     let q = c .before .before .before .before .before .before .before .before .before .before .before .before .before .before .before .before .before .pre in
     (rw (g .0, g .1) (terms-ready (a .olds .now) _ 3 (a .before .now) (a .n) (q .0 .0) (q .0 .2)), rw (h .0, h .1) (terms-ready (a .news .now) _ 4 (a .after .now) (a .k) (q .0 .1) (q .0 .3)), omega (arith, c .before .wider .ensures), omega (arith, c .before .wider .ensures, c .wider2 .ensures), omega (arith, c .wider2 .ensures))
-
-same-length : tie.Need-same-length
-same-length c = search needs
-
-same-length-2 : tie.Need-same-length-2
-same-length-2 c = search needs
 
 returns : tie.Need-returns
 returns c =
@@ -51,12 +30,12 @@ pub completed-spec : {M : Type 1} → statement M
 completed-spec =
     tie.close
     (tie.spec
-    rank-of-requires
-    gather-requires
-    gather-requires-2
-    wider-requires
-    wider-requires-2
+    (λ c κs. search needs)
+    (λ c κs. search needs)
+    (λ c κs. search needs)
+    (λ c κs. search needs)
+    (λ c κs. search needs)
     completed-row-requires
-    same-length
-    same-length-2
+    (λ c. search needs)
+    (λ c. search needs)
     returns)

@@ -25,24 +25,12 @@ add-if1 : tie.Need-add-if1
 add-if1 c =
     omega (arith, c .before .before .pre .0 .few, c .before .before .pre .1 .few)
 
-timely-requires : tie.Need-timely-requires
-timely-requires c κs = search needs
-
 returns : tie.Need-returns
 returns c =
     let a = c .before .before .before .before .args in
     let z : a .n ≡ 0 = omega (arith, c .before .if1 .taken) in
     let y : a .k ≡ 0 = omega (arith, c .before .if1 .taken) in
     c .timely .ensures ∙ sym (rw (z, y) (alone-row (a .old .now) (a .new .now) (a .c) (a .d) (c .before .before .before .before .pre .2) (c .before .before .before .before .pre .3)))
-
-over-phases-requires : tie.Need-over-phases-requires
-over-phases-requires c κs = search needs
-
-enum-known-swept : tie.Need-enum-known-swept
-enum-known-swept c = search needs
-
-enum-known-last : tie.Need-enum-known-last
-enum-known-last c = search needs
 
 timely-requires-2 : tie.Need-timely-requires-2
 timely-requires-2 c κs =
@@ -53,18 +41,12 @@ timely-requires-2 c κs =
     let w = worst-within (flatDemand (a .old .now) (a .n) (a .new .now) (a .k) (a .c)) (a .d) (omega arith) _ i in
     (omega arith, omega arith, omega arith)
 
-enum-told : tie.Need-enum-told
-enum-told c = search needs
-
 timely-requires-3 : tie.Need-timely-requires-3
 timely-requires-3 c κs =
     let a = c .before .before .before .before .before .before .before .before .before .args in
     let i = swept-is _ _ _ (c .before .before .before .before .before .over-phases .ensures) ∙ c .before .before .before .swept .given .1 in
     let w = worst-within (flatDemand (a .old .now) (a .n) (a .new .now) (a .k) (a .c)) (a .d) (omega arith) _ i in
     (omega arith, omega arith, omega arith)
-
-enum-known-swept-2 : tie.Need-enum-known-swept-2
-enum-known-swept-2 c = search needs
 
 narrow-requires : tie.Need-narrow-requires
 narrow-requires c κs =
@@ -97,15 +79,15 @@ completed-row-spec =
     tie.close
     (tie.spec
     add-if1
-    timely-requires
+    (λ c κs. search needs)
     returns
-    over-phases-requires
-    enum-known-swept
-    enum-known-last
+    (λ c κs. search needs)
+    (λ c. search needs)
+    (λ c. search needs)
     timely-requires-2
-    enum-told
+    (λ c. search needs)
     timely-requires-3
-    enum-known-swept-2
+    (λ c. search needs)
     narrow-requires
     returns-2
     returns-3

@@ -7,18 +7,6 @@ use Rattle.rows.proofs.Bridge.{new-is}
 use Rattle.rows.proofs.entering.Statement.{statement}
 use Rattle.rows.proofs.entering.Tie as tie
 
-rank-of-requires : tie.Need-rank-of-requires
-rank-of-requires c κs = search needs
-
-left-requires : tie.Need-left-requires
-left-requires c κs = search needs
-
-gather-requires : tie.Need-gather-requires
-gather-requires c κs = search needs
-
-gather-requires-2 : tie.Need-gather-requires-2
-gather-requires-2 c κs = search needs
-
 new-row-requires : tie.Need-new-row-requires
 new-row-requires c κs =
     let a = c .before .before .before .before .before .before .before .before .before .before .before .before .before .before .before .before .args in
@@ -26,12 +14,6 @@ new-row-requires c κs =
     let h = c .before .before .before .before .gather2 .ensures in
     let q = c .before .before .before .before .before .before .before .before .before .before .before .before .before .before .before .before .pre in
     (rw (g .0, g .1) (terms-ready (a .news .now) _ 3 (a .before .now) (a .k) (q .0 .1) (q .0 .2)), rw (h .0, h .1) (terms-ready (a .news .now) _ 4 (a .after .now) (a .k) (q .0 .1) (q .0 .3)), omega (arith, c .before .before .before .before .before .before .before .before .before .before .left .ensures), q .1 .0, q .1 .1)
-
-same-length : tie.Need-same-length
-same-length c = search needs
-
-same-length-2 : tie.Need-same-length-2
-same-length-2 c = search needs
 
 returns : tie.Need-returns
 returns c =
@@ -48,11 +30,11 @@ pub entering-spec : {M : Type 1} → statement M
 entering-spec =
     tie.close
     (tie.spec
-    rank-of-requires
-    left-requires
-    gather-requires
-    gather-requires-2
+    (λ c κs. search needs)
+    (λ c κs. search needs)
+    (λ c κs. search needs)
+    (λ c κs. search needs)
     new-row-requires
-    same-length
-    same-length-2
+    (λ c. search needs)
+    (λ c. search needs)
     returns)

@@ -5,38 +5,17 @@ use Rattle.rows.proofs.Told.{within, held-periodic, records-told}
 use Rattle.rows.proofs.few.Statement.{statement}
 use Rattle.rows.proofs.few.Tie as tie
 
-slice-aggregate-roll-records : tie.Need-slice-aggregate-roll-records
-slice-aggregate-roll-records c = search needs
-
 roll-records-requires : tie.Need-roll-records-requires
 roll-records-requires c κs =
     let a = c .before .before .before .before .args in
     let q = c .before .before .before .before .pre in
     (q .0 .whole, held-periodic 0 (a .old .now) (a .n) (q .0), within 18 _ _ refl (omega arith))
 
-slice-aggregate-roll-records-2 : tie.Need-slice-aggregate-roll-records-2
-slice-aggregate-roll-records-2 c = search needs
-
 roll-records-requires-2 : tie.Need-roll-records-requires-2
 roll-records-requires-2 c κs =
     let a = c .before .before .before .before .before .before .before .args in
     let q = c .before .before .before .before .before .before .before .pre in
     (q .1 .whole, held-periodic 1 (a .new .now) (a .k) (q .1), within 18 _ _ refl (omega arith))
-
-slice-aggregate-judge : tie.Need-slice-aggregate-judge
-slice-aggregate-judge c = search needs
-
-slice-aggregate-judge-2 : tie.Need-slice-aggregate-judge-2
-slice-aggregate-judge-2 c = search needs
-
-slice-aggregate-judge-3 : tie.Need-slice-aggregate-judge-3
-slice-aggregate-judge-3 c = search needs
-
-slice-aggregate-judge-4 : tie.Need-slice-aggregate-judge-4
-slice-aggregate-judge-4 c = search needs
-
-slice-aggregate-judge-5 : tie.Need-slice-aggregate-judge-5
-slice-aggregate-judge-5 c = search needs
 
 judge-requires : tie.Need-judge-requires
 judge-requires c κs =
@@ -46,9 +25,6 @@ judge-requires c κs =
     let s = c .before .before .before .before .before .before .before .roll-records2 .ensures in
     ((records-told 0 (a .old .now) (a .n) (q .0) _ _ (within 18 _ _ refl (omega arith)) (r .0) (r .1), records-told 1 (a .new .now) (a .k) (q .1) _ _ (within 18 _ _ refl (omega arith)) (s .0) (s .1)), (within 12 _ _ refl (omega arith), within 12 _ _ refl (omega arith), within 12 _ _ refl (omega arith), within 18 _ _ refl (omega arith), q .4))
 
-same-length : tie.Need-same-length
-same-length c = search needs
-
 returns : tie.Need-returns
 returns c =
     c .before .before .before .before .before .judge .ensures
@@ -57,15 +33,15 @@ pub few-spec : {M : Type 1} → statement M
 few-spec =
     tie.close
     (tie.spec
-    slice-aggregate-roll-records
+    (λ c. search needs)
     roll-records-requires
-    slice-aggregate-roll-records-2
+    (λ c. search needs)
     roll-records-requires-2
-    slice-aggregate-judge
-    slice-aggregate-judge-2
-    slice-aggregate-judge-3
-    slice-aggregate-judge-4
-    slice-aggregate-judge-5
+    (λ c. search needs)
+    (λ c. search needs)
+    (λ c. search needs)
+    (λ c. search needs)
+    (λ c. search needs)
     judge-requires
-    same-length
+    (λ c. search needs)
     returns)

@@ -63,9 +63,6 @@ is-row c =
     c .row-of .ensures .2 (tasksIn (a .old .now) (a .n)) (tasksIn (a .new .now) (a .k)) (q .0 .tells) (q .1 .tells) (q .0 .held .legal) (q .1 .held .legal)
     ∙ ap (rowOf (tasksIn (a .old .now) (a .n)) (tasksIn (a .new .now) (a .k))) (is-task (c .before .before .before))
 
-enum-known-r : tie.Need-enum-known-r Inv-loop μ-loop
-enum-known-r c = search needs
-
 mul-put-row : tie.Need-mul-put-row Inv-loop μ-loop
 mul-put-row c =
     omega (arith, c .before .before .before .before .before .before .before .before .before .before .before .before .before .before .before .before .before .before .before .before .before .pre .0 .0 .held .few, c .before .before .before .before .before .before .before .before .before .before .before .before .before .before .before .before .before .before .before .before .before .pre .0 .1 .held .few)
@@ -74,21 +71,9 @@ put-row-requires : tie.Need-put-row-requires Inv-loop μ-loop
 put-row-requires c κs =
     omega (arith, c .before .before .before .before .before .before .before .before .before .before .before .before .before .loop .inv .4, c .before .before .before .before .before .before .before .before .before .before .before .before .before .before .before .before .before .before .before .before .before .pre .1 .3)
 
-enum-known-d : tie.Need-enum-known-d Inv-loop μ-loop
-enum-known-d c = search needs
-
 late-requires : tie.Need-late-requires Inv-loop μ-loop
 late-requires c κs =
     omega (arith, c .before .before .before .before .before .before .before .before .before .before .before .before .before .before .before .before .before .before .before .before .pre .0 .0 .held .few, c .before .before .before .before .before .before .before .before .before .before .before .before .before .before .before .before .before .before .before .before .pre .0 .1 .held .few)
-
-same-length : tie.Need-same-length Inv-loop μ-loop
-same-length c = search needs
-
-same-length-2 : tie.Need-same-length-2 Inv-loop μ-loop
-same-length-2 c = search needs
-
-same-length-3 : tie.Need-same-length-3 Inv-loop μ-loop
-same-length-3 c = search needs
 
 returns : tie.Need-returns Inv-loop μ-loop
 returns c =
@@ -102,9 +87,6 @@ add-j : tie.Need-add-j Inv-loop μ-loop
 add-j c =
     omega (arith, c .before .before .before .before .before .before .before .before .before .before .before .before .before .before .before .before .before .before .before .before .before .before .before .before .pre .0 .0 .held .few, c .before .before .before .before .before .before .before .before .before .before .before .before .before .before .before .before .before .before .before .before .before .before .before .before .pre .0 .1 .held .few)
 
-loop-less : tie.Need-loop-less Inv-loop μ-loop
-loop-less c = search needs
-
 loop-again : tie.Need-loop-again Inv-loop μ-loop
 loop-again c =
     let l = c .before .before .before .before .before .before .before .before .before .before .before .before .before .before .before .before .loop in
@@ -113,15 +95,6 @@ loop-again c =
     let p = c .before .before .put-row .ensures in
     let g = going-more (tasksIn (a .old .now) (a .n)) (tasksIn (a .new .now) (a .k)) (l .j) (l .numbers) (l .inv .5) (inside (c .before .before .before .before .before .before .before .before .before .before .before .before .before .before)) _ (omega (arith, l .inv .4, c .before .before .before .before .before .before .before .before .before .before .before .before .before .before .before .before .before .before .before .before .before .before .before .before .pre .1 .3)) (sym (c .before .before .before .before .before .r .given .1) ∙ is-row (c .before .before .before .before .before .before .before .before .before .before .before)) in
     (search needs, refl, r .0 ∙ l .inv .2, r .1 ∙ l .inv .3, ap length p ∙ simp length-set (l .inv .4), rw p g)
-
-same-length-4 : tie.Need-same-length-4 Inv-loop μ-loop
-same-length-4 c = search needs
-
-same-length-5 : tie.Need-same-length-5 Inv-loop μ-loop
-same-length-5 c = search needs
-
-same-length-6 : tie.Need-same-length-6 Inv-loop μ-loop
-same-length-6 c = search needs
 
 returns-2 : tie.Need-returns-2 Inv-loop μ-loop
 returns-2 c =
@@ -139,19 +112,19 @@ fill-spec =
     loop-holds
     task-at-requires
     row-of-requires
-    enum-known-r
+    (λ c. search needs)
     mul-put-row
     put-row-requires
-    enum-known-d
+    (λ c. search needs)
     late-requires
-    same-length
-    same-length-2
-    same-length-3
+    (λ c. search needs)
+    (λ c. search needs)
+    (λ c. search needs)
     returns
     add-j
-    loop-less
+    (λ c. search needs)
     loop-again
-    same-length-4
-    same-length-5
-    same-length-6
+    (λ c. search needs)
+    (λ c. search needs)
+    (λ c. search needs)
     returns-2)

@@ -33,24 +33,12 @@ add-size c = omega (arith, small (c .before .before .before .before .before .bef
 mul-size : tie.Need-mul-size
 mul-size c = omega (arith, small (c .before .before .before .before .before .before .before .before .before .before .before .before .before .before .before .before .before .before .before .before))
 
-sub-copy-numbers : tie.Need-sub-copy-numbers
-sub-copy-numbers c = search needs
-
-part-copy-numbers-start : tie.Need-part-copy-numbers-start
-part-copy-numbers-start c = search needs
-
 part-copy-numbers-end : tie.Need-part-copy-numbers-end
 part-copy-numbers-end c =
     omega (arith, c .before .before .before .before .before .before .before .before .before .before .fill .ensures .0, c .before .before .before .before .before .before .before .before .before .before .before .before .before .before .before .before .before .before .before .before .before .before .pre .1 .3)
 
 copy-numbers-requires : tie.Need-copy-numbers-requires
 copy-numbers-requires c κs = search needs
-
-same-length : tie.Need-same-length
-same-length c = search needs
-
-same-length-2 : tie.Need-same-length-2
-same-length-2 c = search needs
 
 same-length-3 : tie.Need-same-length-3
 same-length-3 c = search needs
@@ -61,15 +49,6 @@ returns c =
 
 same-length-4 : tie.Need-same-length-4
 same-length-4 c = search needs
-
-same-length-5 : tie.Need-same-length-5
-same-length-5 c = search needs
-
-same-length-6 : tie.Need-same-length-6
-same-length-6 c = search needs
-
-same-length-7 : tie.Need-same-length-7
-same-length-7 c = search needs
 
 returns-2 : tie.Need-returns-2
 returns-2 c =
@@ -89,16 +68,16 @@ judge-spec =
     enum-told
     add-size
     mul-size
-    sub-copy-numbers
-    part-copy-numbers-start
+    (λ c. search needs)
+    (λ c. search needs)
     part-copy-numbers-end
     copy-numbers-requires
-    same-length
-    same-length-2
+    (λ c. search needs)
+    (λ c. search needs)
     same-length-3
     returns
     same-length-4
-    same-length-5
-    same-length-6
-    same-length-7
+    (λ c. search needs)
+    (λ c. search needs)
+    (λ c. search needs)
     returns-2)

@@ -5,9 +5,6 @@ use Rattle.rows.proofs.Told.{within, table-rolls, table-told}
 use Rattle.rows.proofs.many.Statement.{statement}
 use Rattle.rows.proofs.many.Tie as tie
 
-slice-aggregate-roll : tie.Need-slice-aggregate-roll
-slice-aggregate-roll c = search needs
-
 table-of-requires : tie.Need-table-of-requires
 table-of-requires c κs =
     (c .before .before .before .before .pre .0 .whole, c .before .before .before .before .pre .0 .few)
@@ -17,9 +14,6 @@ roll-requires c κs =
     let a = c .before .before .before .before .before .args in
     let q = c .before .before .before .before .before .pre in
     table-rolls 0 (a .old .now) (a .n) (q .0) _ (c .table-of .ensures) _ (within 180 _ _ refl (omega (arith, q .0 .few)))
-
-slice-aggregate-roll-2 : tie.Need-slice-aggregate-roll-2
-slice-aggregate-roll-2 c = search needs
 
 table-of-requires-2 : tie.Need-table-of-requires-2
 table-of-requires-2 c κs =
@@ -31,21 +25,6 @@ roll-requires-2 c κs =
     let q = c .before .before .before .before .before .before .before .before .before .pre in
     table-rolls 1 (a .new .now) (a .k) (q .1) _ (c .table-of2 .ensures) _ (within 180 _ _ refl (omega (arith, q .1 .few)))
 
-slice-aggregate-judge : tie.Need-slice-aggregate-judge
-slice-aggregate-judge c = search needs
-
-slice-aggregate-judge-2 : tie.Need-slice-aggregate-judge-2
-slice-aggregate-judge-2 c = search needs
-
-slice-aggregate-judge-3 : tie.Need-slice-aggregate-judge-3
-slice-aggregate-judge-3 c = search needs
-
-slice-aggregate-judge-4 : tie.Need-slice-aggregate-judge-4
-slice-aggregate-judge-4 c = search needs
-
-slice-aggregate-judge-5 : tie.Need-slice-aggregate-judge-5
-slice-aggregate-judge-5 c = search needs
-
 judge-requires : tie.Need-judge-requires
 judge-requires c κs =
     let a = c .before .before .before .before .before .before .before .before .before .before .before .before .before .before .before .before .before .args in
@@ -56,9 +35,6 @@ judge-requires c κs =
     let k = q .1 .few in
     ((table-told 0 (a .old .now) (a .n) (q .0) _ (c .before .before .before .before .before .before .before .before .before .before .before .before .table-of .ensures) _ _ (within 180 _ _ refl (omega (arith, n))) (r .0) (r .1), table-told 1 (a .new .now) (a .k) (q .1) _ (c .before .before .before .before .before .before .before .before .table-of2 .ensures) _ _ (within 180 _ _ refl (omega (arith, k))) (s .0) (s .1)), (within 120 _ _ refl (omega (arith, n)), within 120 _ _ refl (omega (arith, k)), within 120 _ _ refl (omega (arith, k)), within 180 _ _ refl (omega (arith, n, k)), q .2))
 
-same-length : tie.Need-same-length
-same-length c = search needs
-
 returns : tie.Need-returns
 returns c =
     c .before .before .before .before .before .judge .ensures
@@ -67,17 +43,17 @@ pub many-spec : {M : Type 1} → statement M
 many-spec =
     tie.close
     (tie.spec
-    slice-aggregate-roll
+    (λ c. search needs)
     table-of-requires
     roll-requires
-    slice-aggregate-roll-2
+    (λ c. search needs)
     table-of-requires-2
     roll-requires-2
-    slice-aggregate-judge
-    slice-aggregate-judge-2
-    slice-aggregate-judge-3
-    slice-aggregate-judge-4
-    slice-aggregate-judge-5
+    (λ c. search needs)
+    (λ c. search needs)
+    (λ c. search needs)
+    (λ c. search needs)
+    (λ c. search needs)
     judge-requires
-    same-length
+    (λ c. search needs)
     returns)

@@ -6,39 +6,6 @@ use Rattle.rows.proofs.Windows.{steady-within, request-within}
 use Rattle.rows.proofs.new_row.Statement.{statement}
 use Rattle.rows.proofs.new_row.Tie as tie
 
-wider-requires : tie.Need-wider-requires
-wider-requires c κs = search needs
-
-wider-requires-2 : tie.Need-wider-requires-2
-wider-requires-2 c κs = search needs
-
-wider-requires-3 : tie.Need-wider-requires-3
-wider-requires-3 c κs = search needs
-
-steady-requires : tie.Need-steady-requires
-steady-requires c κs = search needs
-
-enum-known-s : tie.Need-enum-known-s
-enum-known-s c = search needs
-
-add-request : tie.Need-add-request
-add-request c = search needs
-
-add-request-2 : tie.Need-add-request-2
-add-request-2 c = search needs
-
-request-requires : tie.Need-request-requires
-request-requires c κs = search needs
-
-enum-known-w : tie.Need-enum-known-w
-enum-known-w c = search needs
-
-less-requires : tie.Need-less-requires
-less-requires c κs = search needs
-
-larger-requires : tie.Need-larger-requires
-larger-requires c κs = search needs
-
 timely-requires : tie.Need-timely-requires
 timely-requires c κs =
     let a = c .before .before .before .before .before .before .before .before .before .before .before .before .before .before .before .args in
@@ -47,12 +14,6 @@ timely-requires c κs =
     let g = closing-at _ _ (sym (c .before .before .before .before .before .request .ensures) ∙ c .before .before .before .w .given .1) in
     let m = request-within (a .new .now) (a .k) _ _ _ g in
     (omega (arith, c .larger .ensures, c .before .less .ensures), omega arith, omega arith)
-
-enum-told : tie.Need-enum-told
-enum-told c = search needs
-
-enum-told-2 : tie.Need-enum-told-2
-enum-told-2 c = search needs
 
 returns : tie.Need-returns
 returns c =
@@ -75,20 +36,20 @@ pub new-row-spec : {M : Type 1} → statement M
 new-row-spec =
     tie.close
     (tie.spec
-    wider-requires
-    wider-requires-2
-    wider-requires-3
-    steady-requires
-    enum-known-s
-    add-request
-    add-request-2
-    request-requires
-    enum-known-w
-    less-requires
-    larger-requires
+    (λ c κs. search needs)
+    (λ c κs. search needs)
+    (λ c κs. search needs)
+    (λ c κs. search needs)
+    (λ c. search needs)
+    (λ c. search needs)
+    (λ c. search needs)
+    (λ c κs. search needs)
+    (λ c. search needs)
+    (λ c κs. search needs)
+    (λ c κs. search needs)
     timely-requires
-    enum-told
-    enum-told-2
+    (λ c. search needs)
+    (λ c. search needs)
     returns
     returns-2
     returns-3)

@@ -7,9 +7,6 @@ few-requires c κs =
     let q = c .before .before .before .before .before .before .pre in
     (q .0, q .1, c .before .before .if1 .taken, c .before .if2 .taken, q .2)
 
-same-length : tie.Need-same-length
-same-length c = search needs
-
 returns : tie.Need-returns
 returns c =
     c .before .before .few .ensures
@@ -18,13 +15,10 @@ many-requires : tie.Need-many-requires
 many-requires c κs =
     c .before .before .before .before .before .pre
 
-same-length-2 : tie.Need-same-length-2
-same-length-2 c = search needs
-
 returns-2 : tie.Need-returns-2
 returns-2 c =
     c .before .before .many .ensures
 
 pub rows-of-spec : {M : Type 1} → statement M
 rows-of-spec =
-    tie.close (tie.spec few-requires same-length returns many-requires same-length-2 returns-2)
+    tie.close (tie.spec few-requires (λ c. search needs) returns many-requires (λ c. search needs) returns-2)

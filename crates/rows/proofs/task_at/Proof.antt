@@ -3,19 +3,13 @@ use borrow.Author.Tests.{lt-ltb, le-ltb}
 use Rattle.rows.proofs.task_at.Statement.{statement}
 use Rattle.rows.proofs.task_at.Tie as tie
 
-task-at-requires : tie.Need-task-at-requires
-task-at-requires c κs = search needs
-
 returns : tie.Need-returns
 returns c =
     rw (lt-ltb _ _ (c .before .if1 .taken)) (c .task-at .ensures)
-
-task-at-requires-2 : tie.Need-task-at-requires-2
-task-at-requires-2 c κs = search needs
 
 returns-2 : tie.Need-returns-2
 returns-2 c =
     rw (le-ltb _ _ (c .before .if1 .left)) (c .task-at2 .ensures)
 
 pub task-at-spec : {M : Type 1} → statement M
-task-at-spec = tie.close (tie.spec task-at-requires returns task-at-requires-2 returns-2)
+task-at-spec = tie.close (tie.spec (λ c κs. search needs) returns (λ c κs. search needs) returns-2)

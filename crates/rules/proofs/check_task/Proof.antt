@@ -11,46 +11,25 @@ use Rattle.rules.proofs.check_task.Tie as tie
 kind : (c : tie.Else1) → kindOn (c .before .before .args .side) (c .before .before .args .x .kind) ≡ true
 kind c = sym (c .before .kind-on .ensures) ∙ not-false _ (c .if1 .left)
 
-kind-on-requires : tie.Need-kind-on-requires
-kind-on-requires c κs = search needs
-
-refused-requires : tie.Need-refused-requires
-refused-requires c κs = search needs
-
 returns : tie.Need-returns
 returns c =
     c .refused .ensures ∙ sym (wrong-kind _ _ _ (sym (c .before .before .kind-on .ensures) ∙ not-true _ (c .before .if1 .taken)))
-
-refused-requires-2 : tie.Need-refused-requires-2
-refused-requires-2 c κs = search needs
 
 returns-2 : tie.Need-returns-2
 returns-2 c =
     c .refused2 .ensures ∙ sym (no-period _ _ _ (kind (c .before .before .before)) (c .before .if2 .taken))
 
-refused-requires-3 : tie.Need-refused-requires-3
-refused-requires-3 c κs = search needs
-
 returns-3 : tie.Need-returns-3
 returns-3 c =
     c .refused3 .ensures ∙ sym (no-execution _ _ _ (kind (c .before .before .before .before .before)) (c .before .before .before .if2 .left) (c .before .if3 .taken))
-
-refused-requires-4 : tie.Need-refused-requires-4
-refused-requires-4 c κs = search needs
 
 returns-4 : tie.Need-returns-4
 returns-4 c =
     c .refused4 .ensures ∙ sym (past-deadline _ _ _ (kind (c .before .before .before .before .before .before .before)) (c .before .before .before .before .before .if2 .left) (c .before .before .before .if3 .left) (c .before .if4 .taken))
 
-refused-requires-5 : tie.Need-refused-requires-5
-refused-requires-5 c κs = search needs
-
 returns-5 : tie.Need-returns-5
 returns-5 c =
     c .refused5 .ensures ∙ sym (past-period _ _ _ (kind (c .before .before .before .before .before .before .before .before .before)) (c .before .before .before .before .before .before .before .if2 .left) (c .before .before .before .before .before .if3 .left) (c .before .before .before .if4 .left) (c .before .if5 .taken))
-
-refused-requires-6 : tie.Need-refused-requires-6
-refused-requires-6 c κs = search needs
 
 returns-6 : tie.Need-returns-6
 returns-6 c =
@@ -68,18 +47,18 @@ pub check-task-spec : {M : Type 1} → statement M
 check-task-spec =
     tie.close
     (tie.spec
-    kind-on-requires
-    refused-requires
+    (λ c κs. search needs)
+    (λ c κs. search needs)
     returns
-    refused-requires-2
+    (λ c κs. search needs)
     returns-2
-    refused-requires-3
+    (λ c κs. search needs)
     returns-3
-    refused-requires-4
+    (λ c κs. search needs)
     returns-4
-    refused-requires-5
+    (λ c κs. search needs)
     returns-5
-    refused-requires-6
+    (λ c κs. search needs)
     returns-6
     returns-7
     returns-8)

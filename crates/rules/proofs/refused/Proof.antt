@@ -3,12 +3,9 @@ use borrow.Author.Needs.{needs}
 use Rattle.rules.proofs.refused.Statement.{statement}
 use Rattle.rules.proofs.refused.Tie as tie
 
-least-requires : tie.Need-least-requires
-least-requires c κs = search needs
-
 returns : tie.Need-returns
 returns c =
     rw (c .least .ensures)
 
 pub refused-spec : {M : Type 1} → statement M
-refused-spec = tie.close (tie.spec least-requires returns)
+refused-spec = tie.close (tie.spec (λ c κs. search needs) returns)

@@ -26,38 +26,6 @@ unfolding upTo flatMap
 loop-holds c =
     (search needs, refl, refl)
 
-task-at-requires : tie.Need-task-at-requires Inv-loop μ-loop
-task-at-requires c κs = search needs
-
-mul-at : tie.Need-mul-at Inv-loop μ-loop
-mul-at c = search needs
-
-add-put-numbers : tie.Need-add-put-numbers Inv-loop μ-loop
-add-put-numbers c = search needs
-
-mul-put-numbers : tie.Need-mul-put-numbers Inv-loop μ-loop
-mul-put-numbers c = search needs
-
-sub-put-numbers : tie.Need-sub-put-numbers Inv-loop μ-loop
-sub-put-numbers c = search needs
-
-part-put-numbers-start : tie.Need-part-put-numbers-start Inv-loop μ-loop
-part-put-numbers-start c = search needs
-
-part-put-numbers-end : tie.Need-part-put-numbers-end Inv-loop μ-loop
-part-put-numbers-end c =
-    search needs
-
-put-numbers-requires : tie.Need-put-numbers-requires Inv-loop μ-loop
-put-numbers-requires c κs = search needs
-
-add-k : tie.Need-add-k Inv-loop μ-loop
-add-k c = search needs
-
-loop-less : tie.Need-loop-less Inv-loop μ-loop
-loop-less c =
-    search needs
-
 loop-again : tie.Need-loop-again Inv-loop μ-loop
 loop-again c =
     let a = c .before .before .before .before .before .before .before .before .before .args in
@@ -66,10 +34,6 @@ loop-again c =
       search needs,
       list-more (λ k. taskOf (recordPart (a .block .now) k)) (l .list) (a .list .now) _ (l .k) (l .inv .2) (c .before .before .put-numbers .ensures ∙ ap numbersOf (c .before .before .before .before .task-at .ensures)),
     )
-
-same-length : tie.Need-same-length Inv-loop μ-loop
-same-length c =
-    search needs
 
 returns : tie.Need-returns Inv-loop μ-loop
 returns c =
@@ -85,16 +49,16 @@ put-tasks-spec =
     Inv-loop
     μ-loop
     loop-holds
-    task-at-requires
-    mul-at
-    add-put-numbers
-    mul-put-numbers
-    sub-put-numbers
-    part-put-numbers-start
-    part-put-numbers-end
-    put-numbers-requires
-    add-k
-    loop-less
+    (λ c κs. search needs)
+    (λ c. search needs)
+    (λ c. search needs)
+    (λ c. search needs)
+    (λ c. search needs)
+    (λ c. search needs)
+    (λ c. search needs)
+    (λ c κs. search needs)
+    (λ c. search needs)
+    (λ c. search needs)
     loop-again
-    same-length
+    (λ c. search needs)
     returns)

@@ -23,30 +23,11 @@ abbrev μ-loop : tie.MeasureT-loop
 μ-loop block n table₀ k₀ table k =
     n - k
 
-no-tasks-requires : tie.Need-no-tasks-requires Inv-loop μ-loop
-no-tasks-requires c κs = search needs
-
 loop-holds : tie.Need-loop-holds Inv-loop μ-loop
 unfolding upTo
 loop-holds c =
     let e = c .no-tasks .ensures in
     (search needs, refl, ap (λ (t : Table). length (t .tasks)) e, ap (λ (t : Table). t .tasks) e)
-
-task-at-requires : tie.Need-task-at-requires Inv-loop μ-loop
-task-at-requires c κs = search needs
-
-mul-t8 : tie.Need-mul-t8 Inv-loop μ-loop
-mul-t8 c = search needs
-
-element-set-from-table : tie.Need-element-set-from-table Inv-loop μ-loop
-element-set-from-table c = search needs
-
-add-k : tie.Need-add-k Inv-loop μ-loop
-add-k c = search needs
-
-loop-less : tie.Need-loop-less Inv-loop μ-loop
-loop-less c =
-    search needs
 
 loop-again : tie.Need-loop-again Inv-loop μ-loop
 loop-again c =
@@ -70,12 +51,12 @@ table-of-spec =
     (tie.spec
     Inv-loop
     μ-loop
-    no-tasks-requires
+    (λ c κs. search needs)
     loop-holds
-    task-at-requires
-    mul-t8
-    element-set-from-table
-    add-k
-    loop-less
+    (λ c κs. search needs)
+    (λ c. search needs)
+    (λ c. search needs)
+    (λ c. search needs)
+    (λ c. search needs)
     loop-again
     returns)

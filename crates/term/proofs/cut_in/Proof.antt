@@ -19,9 +19,6 @@ module _ (c : tie.After-whole) where
   unfolding cutIn
   small = rw (c .whole .ensures) (cut-small (c .before .args .p) (c .before .args .c) (c .before .args .m) (omega arith) (omega arith))
 
-whole-requires : tie.Need-whole-requires
-whole-requires c κs = search needs
-
 mul-result : tie.Need-mul-result
 mul-result c = omega (arith, small c)
 
@@ -30,9 +27,6 @@ mul-rest c = omega (arith, part c)
 
 sub-rest : tie.Need-sub-rest
 sub-rest c = omega (arith, part c)
-
-least-requires : tie.Need-least-requires
-least-requires c κs = search needs
 
 add-result : tie.Need-add-result
 add-result c = omega (arith, small (c .before), part (c .before))
@@ -47,4 +41,4 @@ returns c =
 pub cut-in-spec : {M : Type 1} → statement M
 cut-in-spec =
     tie.close
-    (tie.spec whole-requires mul-rest sub-rest mul-result least-requires add-result returns)
+    (tie.spec (λ c κs. search needs) mul-rest sub-rest mul-result (λ c κs. search needs) add-result returns)

@@ -14,15 +14,6 @@ small c =
     let e = ap (λ (q : ℕ). q * a .c) (c .whole .ensures) in
     omega (arith, e, jobs-small (a .p) (a .c) (a .t) (omega arith) (omega arith) (omega arith))
 
-sub-up : tie.Need-sub-up
-sub-up c = search needs
-
-add-up : tie.Need-add-up
-add-up c = search needs
-
-whole-requires : tie.Need-whole-requires
-whole-requires c κs = search needs
-
 mul-result : tie.Need-mul-result
 mul-result c = omega (arith, small c)
 
@@ -31,4 +22,4 @@ unfolding jobsIn ceil
 returns c = (ap (λ (q : ℕ). q * c .before .args .c) (c .whole .ensures), small c)
 
 pub jobs-in-spec : {M : Type 1} → statement M
-jobs-in-spec = tie.close (tie.spec sub-up add-up whole-requires mul-result returns)
+jobs-in-spec = tie.close (tie.spec (λ c. search needs) (λ c. search needs) (λ c κs. search needs) mul-result returns)

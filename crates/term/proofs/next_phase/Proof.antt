@@ -13,62 +13,14 @@ Inv-loop terms n x limit next₀ j₀ next j = (j ≤ n) × (next ≡ nextPhase 
 abbrev μ-loop : tie.MeasureT-loop
 μ-loop terms n x limit next₀ j₀ next j = n - j
 
-add-next : tie.Need-add-next Inv-loop μ-loop
-add-next c = search needs
-
 loop-holds : tie.Need-loop-holds Inv-loop μ-loop
 unfolding nextPhase
 loop-holds c = search needs
-
-mul-at : tie.Need-mul-at Inv-loop μ-loop
-mul-at c = search needs
-
-mul-next-of : tie.Need-mul-next-of Inv-loop μ-loop
-mul-next-of c = search needs
-
-shared-slice-read-next-of : tie.Need-shared-slice-read-next-of Inv-loop μ-loop
-shared-slice-read-next-of c = search needs
-
-add-next-of : tie.Need-add-next-of Inv-loop μ-loop
-add-next-of c = search needs
-
-mul-next-of-2 : tie.Need-mul-next-of-2 Inv-loop μ-loop
-mul-next-of-2 c = search needs
-
-shared-slice-read-next-of-2 : tie.Need-shared-slice-read-next-of-2 Inv-loop μ-loop
-shared-slice-read-next-of-2 c = search needs
-
-add-next-of-2 : tie.Need-add-next-of-2 Inv-loop μ-loop
-add-next-of-2 c = search needs
-
-mul-next-of-3 : tie.Need-mul-next-of-3 Inv-loop μ-loop
-mul-next-of-3 c = search needs
-
-shared-slice-read-next-of-3 : tie.Need-shared-slice-read-next-of-3 Inv-loop μ-loop
-shared-slice-read-next-of-3 c = search needs
-
-add-next-of-3 : tie.Need-add-next-of-3 Inv-loop μ-loop
-add-next-of-3 c = search needs
-
-mul-next-of-4 : tie.Need-mul-next-of-4 Inv-loop μ-loop
-mul-next-of-4 c = search needs
-
-shared-slice-read-next-of-4 : tie.Need-shared-slice-read-next-of-4 Inv-loop μ-loop
-shared-slice-read-next-of-4 c = search needs
 
 next-of-requires : tie.Need-next-of-requires Inv-loop μ-loop
 next-of-requires c κs =
     let s = c .before .before .before .before .before .before .before in
     (s .pre .0 .good (c .before .before .before .before .before .loop .j) (omega arith), omega arith)
-
-least-requires : tie.Need-least-requires Inv-loop μ-loop
-least-requires c κs = search needs
-
-add-j : tie.Need-add-j Inv-loop μ-loop
-add-j c = search needs
-
-loop-less : tie.Need-loop-less Inv-loop μ-loop
-loop-less c = search needs
 
 loop-again : tie.Need-loop-again Inv-loop μ-loop
 unfolding nextPhase shareOf
@@ -85,23 +37,23 @@ next-phase-spec =
     (tie.spec
     Inv-loop
     μ-loop
-    add-next
+    (λ c. search needs)
     loop-holds
-    mul-at
-    mul-next-of
-    shared-slice-read-next-of
-    add-next-of
-    mul-next-of-2
-    shared-slice-read-next-of-2
-    add-next-of-2
-    mul-next-of-3
-    shared-slice-read-next-of-3
-    add-next-of-3
-    mul-next-of-4
-    shared-slice-read-next-of-4
+    (λ c. search needs)
+    (λ c. search needs)
+    (λ c. search needs)
+    (λ c. search needs)
+    (λ c. search needs)
+    (λ c. search needs)
+    (λ c. search needs)
+    (λ c. search needs)
+    (λ c. search needs)
+    (λ c. search needs)
+    (λ c. search needs)
+    (λ c. search needs)
     next-of-requires
-    least-requires
-    add-j
-    loop-less
+    (λ c κs. search needs)
+    (λ c. search needs)
+    (λ c. search needs)
     loop-again
     returns)

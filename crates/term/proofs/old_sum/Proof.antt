@@ -18,56 +18,11 @@ loop-holds : tie.Need-loop-holds Inv-loop μ-loop
 unfolding sum
 loop-holds c = search needs
 
-mul-at : tie.Need-mul-at Inv-loop μ-loop
-mul-at c = search needs
-
-mul-old-term : tie.Need-mul-old-term Inv-loop μ-loop
-mul-old-term c = search needs
-
-shared-slice-read-old-term : tie.Need-shared-slice-read-old-term Inv-loop μ-loop
-shared-slice-read-old-term c = search needs
-
-add-old-term : tie.Need-add-old-term Inv-loop μ-loop
-add-old-term c = search needs
-
-mul-old-term-2 : tie.Need-mul-old-term-2 Inv-loop μ-loop
-mul-old-term-2 c = search needs
-
-shared-slice-read-old-term-2 : tie.Need-shared-slice-read-old-term-2 Inv-loop μ-loop
-shared-slice-read-old-term-2 c = search needs
-
-add-old-term-2 : tie.Need-add-old-term-2 Inv-loop μ-loop
-add-old-term-2 c = search needs
-
-mul-old-term-3 : tie.Need-mul-old-term-3 Inv-loop μ-loop
-mul-old-term-3 c = search needs
-
-shared-slice-read-old-term-3 : tie.Need-shared-slice-read-old-term-3 Inv-loop μ-loop
-shared-slice-read-old-term-3 c = search needs
-
-add-old-term-3 : tie.Need-add-old-term-3 Inv-loop μ-loop
-add-old-term-3 c = search needs
-
-mul-old-term-4 : tie.Need-mul-old-term-4 Inv-loop μ-loop
-mul-old-term-4 c = search needs
-
-shared-slice-read-old-term-4 : tie.Need-shared-slice-read-old-term-4 Inv-loop μ-loop
-shared-slice-read-old-term-4 c = search needs
-
 old-term-requires : tie.Need-old-term-requires Inv-loop μ-loop
 old-term-requires c κs =
     let l = c .before .before .before .before .before .loop in
     let s = c .before .before .before .before .before .before .before in
     (s .pre .0 .good (l .j) (omega arith), search needs)
-
-add-sum : tie.Need-add-sum Inv-loop μ-loop
-add-sum c = search needs
-
-add-j : tie.Need-add-j Inv-loop μ-loop
-add-j c = search needs
-
-loop-less : tie.Need-loop-less Inv-loop μ-loop
-loop-less c = search needs
 
 loop-again : tie.Need-loop-again Inv-loop μ-loop
 unfolding shareOf
@@ -89,21 +44,21 @@ old-sum-spec =
     Inv-loop
     μ-loop
     loop-holds
-    mul-at
-    mul-old-term
-    shared-slice-read-old-term
-    add-old-term
-    mul-old-term-2
-    shared-slice-read-old-term-2
-    add-old-term-2
-    mul-old-term-3
-    shared-slice-read-old-term-3
-    add-old-term-3
-    mul-old-term-4
-    shared-slice-read-old-term-4
+    (λ c. search needs)
+    (λ c. search needs)
+    (λ c. search needs)
+    (λ c. search needs)
+    (λ c. search needs)
+    (λ c. search needs)
+    (λ c. search needs)
+    (λ c. search needs)
+    (λ c. search needs)
+    (λ c. search needs)
+    (λ c. search needs)
+    (λ c. search needs)
     old-term-requires
-    add-sum
-    add-j
-    loop-less
+    (λ c. search needs)
+    (λ c. search needs)
+    (λ c. search needs)
     loop-again
     returns)

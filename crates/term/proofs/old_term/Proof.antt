@@ -4,19 +4,13 @@ use Rattle.term.specs.Terms.{before}
 use Rattle.term.proofs.old_term.Statement.{statement}
 use Rattle.term.proofs.old_term.Tie as tie
 
-jobs-in-requires : tie.Need-jobs-in-requires
-jobs-in-requires c κs = search needs
-
 returns : tie.Need-returns
 unfolding before
 returns c = (rw (eq-eqb _ _ (c .before .if1 .taken)) (c .jobs-in .ensures .0), c .jobs-in .ensures .1)
-
-cut-in-requires : tie.Need-cut-in-requires
-cut-in-requires c κs = search needs
 
 returns-2 : tie.Need-returns-2
 unfolding before
 returns-2 c = (rw (ne-eqb _ _ (c .before .if1 .left)) (c .cut-in .ensures .0), c .cut-in .ensures .1)
 
 pub old-term-spec : {M : Type 1} → statement M
-old-term-spec = tie.close (tie.spec jobs-in-requires returns cut-in-requires returns-2)
+old-term-spec = tie.close (tie.spec (λ c κs. search needs) returns (λ c κs. search needs) returns-2)

@@ -11,20 +11,11 @@ use Rattle.term.proofs.prev_of.Tie as tie
 part : (c : tie.After-whole) → c .whole .result * c .before .args .p + c .before .args .m % c .before .args .p ≡ c .before .args .m
 part c = rw (c .whole .ensures) (div-add-mod' (c .before .args .m) (c .before .args .p))
 
-whole-requires : tie.Need-whole-requires
-whole-requires c κs = search needs
-
 mul-r : tie.Need-mul-r
 mul-r c = omega (arith, part c)
 
 sub-r : tie.Need-sub-r
 sub-r c = omega (arith, part c)
-
-grows-by-requires : tie.Need-grows-by-requires
-grows-by-requires c κs = search needs
-
-add-result : tie.Need-add-result
-add-result c = search needs
 
 returns : tie.Need-returns
 unfolding prevOf
@@ -33,12 +24,6 @@ returns c =
     let e : a .m - c .before .before .whole .result * a .p ≡ a .m % a .p = omega (arith, part (c .before .before)) in
     let h : a .m % a .p < growsBy (a .c) (a .mark) = omega (arith, c .if1 .taken, c .before .grows-by .ensures) in
     rw (lt-ltb _ _ h)
-
-sub-result : tie.Need-sub-result
-sub-result c = search needs
-
-add-result-2 : tie.Need-add-result-2
-add-result-2 c = search needs
 
 returns-2 : tie.Need-returns-2
 unfolding prevOf
@@ -52,12 +37,12 @@ pub prev-of-spec : {M : Type 1} → statement M
 prev-of-spec =
     tie.close
     (tie.spec
-    whole-requires
+    (λ c κs. search needs)
     mul-r
     sub-r
-    grows-by-requires
-    add-result
+    (λ c κs. search needs)
+    (λ c. search needs)
     returns
-    sub-result
-    add-result-2
+    (λ c. search needs)
+    (λ c. search needs)
     returns-2)

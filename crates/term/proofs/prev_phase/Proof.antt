@@ -26,55 +26,10 @@ returns c =
     let h : a .m < prevPhase (a .terms .now) (l .j) (a .m) = omega (arith, e, c .if1 .taken) in
     omega (arith, e, phase-stays (a .terms .now) (a .n) (a .m) (l .j) (l .inv .0) (c .before .before .before .before .pre .0) h)
 
-mul-at : tie.Need-mul-at Inv-loop μ-loop
-mul-at c = search needs
-
-mul-prev-of : tie.Need-mul-prev-of Inv-loop μ-loop
-mul-prev-of c = search needs
-
-shared-slice-read-prev-of : tie.Need-shared-slice-read-prev-of Inv-loop μ-loop
-shared-slice-read-prev-of c = search needs
-
-add-prev-of : tie.Need-add-prev-of Inv-loop μ-loop
-add-prev-of c = search needs
-
-mul-prev-of-2 : tie.Need-mul-prev-of-2 Inv-loop μ-loop
-mul-prev-of-2 c = search needs
-
-shared-slice-read-prev-of-2 : tie.Need-shared-slice-read-prev-of-2 Inv-loop μ-loop
-shared-slice-read-prev-of-2 c = search needs
-
-add-prev-of-2 : tie.Need-add-prev-of-2 Inv-loop μ-loop
-add-prev-of-2 c = search needs
-
-mul-prev-of-3 : tie.Need-mul-prev-of-3 Inv-loop μ-loop
-mul-prev-of-3 c = search needs
-
-shared-slice-read-prev-of-3 : tie.Need-shared-slice-read-prev-of-3 Inv-loop μ-loop
-shared-slice-read-prev-of-3 c = search needs
-
-add-prev-of-3 : tie.Need-add-prev-of-3 Inv-loop μ-loop
-add-prev-of-3 c = search needs
-
-mul-prev-of-4 : tie.Need-mul-prev-of-4 Inv-loop μ-loop
-mul-prev-of-4 c = search needs
-
-shared-slice-read-prev-of-4 : tie.Need-shared-slice-read-prev-of-4 Inv-loop μ-loop
-shared-slice-read-prev-of-4 c = search needs
-
 prev-of-requires : tie.Need-prev-of-requires Inv-loop μ-loop
 prev-of-requires c κs =
     let s = c .before .before .before .before .before .before .before .before in
     (s .pre .0 .good (c .before .before .before .before .before .before .loop .j) (omega arith), omega arith)
-
-larger-requires : tie.Need-larger-requires Inv-loop μ-loop
-larger-requires c κs = search needs
-
-add-j : tie.Need-add-j Inv-loop μ-loop
-add-j c = search needs
-
-loop-less : tie.Need-loop-less Inv-loop μ-loop
-loop-less c = search needs
 
 loop-again : tie.Need-loop-again Inv-loop μ-loop
 unfolding prevPhase shareOf
@@ -93,21 +48,21 @@ prev-phase-spec =
     μ-loop
     loop-holds
     returns
-    mul-at
-    mul-prev-of
-    shared-slice-read-prev-of
-    add-prev-of
-    mul-prev-of-2
-    shared-slice-read-prev-of-2
-    add-prev-of-2
-    mul-prev-of-3
-    shared-slice-read-prev-of-3
-    add-prev-of-3
-    mul-prev-of-4
-    shared-slice-read-prev-of-4
+    (λ c. search needs)
+    (λ c. search needs)
+    (λ c. search needs)
+    (λ c. search needs)
+    (λ c. search needs)
+    (λ c. search needs)
+    (λ c. search needs)
+    (λ c. search needs)
+    (λ c. search needs)
+    (λ c. search needs)
+    (λ c. search needs)
+    (λ c. search needs)
     prev-of-requires
-    larger-requires
-    add-j
-    loop-less
+    (λ c κs. search needs)
+    (λ c. search needs)
+    (λ c. search needs)
     loop-again
     returns-2)

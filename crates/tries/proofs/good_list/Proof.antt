@@ -26,39 +26,6 @@ loop-holds : tie.Need-loop-holds Inv-loop μ-loop
 unfolding upTo flatMap
 loop-holds c = (search needs, refl, refl, refl)
 
-mul-at : tie.Need-mul-at Inv-loop μ-loop
-mul-at c = search needs
-
-add-put-numbers : tie.Need-add-put-numbers Inv-loop μ-loop
-add-put-numbers c = search needs
-
-mul-list : tie.Need-mul-list Inv-loop μ-loop
-mul-list c = search needs
-
-sub-put-numbers : tie.Need-sub-put-numbers Inv-loop μ-loop
-sub-put-numbers c = search needs
-
-part-list-start : tie.Need-part-list-start Inv-loop μ-loop
-part-list-start c = search needs
-
-part-list-end : tie.Need-part-list-end Inv-loop μ-loop
-part-list-end c = search needs
-
-cast-good-task : tie.Need-cast-good-task Inv-loop μ-loop
-cast-good-task c = search needs
-
-good-task-requires : tie.Need-good-task-requires Inv-loop μ-loop
-good-task-requires c κs = search needs
-
-put-numbers-requires : tie.Need-put-numbers-requires Inv-loop μ-loop
-put-numbers-requires c κs = search needs
-
-add-k : tie.Need-add-k Inv-loop μ-loop
-add-k c = search needs
-
-loop-less : tie.Need-loop-less Inv-loop μ-loop
-loop-less c = search needs
-
 loop-again : tie.Need-loop-again Inv-loop μ-loop
 loop-again c =
     let l = c .before .before .before .before .before .loop in
@@ -78,16 +45,16 @@ good-list-spec =
     Inv-loop
     μ-loop
     loop-holds
-    mul-at
-    add-put-numbers
-    mul-list
-    sub-put-numbers
-    part-list-start
-    part-list-end
-    cast-good-task
-    good-task-requires
-    put-numbers-requires
-    add-k
-    loop-less
+    (λ c. search needs)
+    (λ c. search needs)
+    (λ c. search needs)
+    (λ c. search needs)
+    (λ c. search needs)
+    (λ c. search needs)
+    (λ c. search needs)
+    (λ c κs. search needs)
+    (λ c κs. search needs)
+    (λ c. search needs)
+    (λ c. search needs)
     loop-again
     returns)

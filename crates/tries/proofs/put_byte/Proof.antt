@@ -4,27 +4,6 @@ use borrow.Author.Needs.{needs}
 use Rattle.tries.proofs.put_byte.Statement.{statement}
 use Rattle.tries.proofs.put_byte.Tie as tie
 
-number-requires : tie.Need-number-requires
-number-requires c κs = search needs
-
-cast-at : tie.Need-cast-at
-cast-at c = search needs
-
-add-number : tie.Need-add-number
-add-number c = search needs
-
-number-requires-2 : tie.Need-number-requires-2
-number-requires-2 c κs = search needs
-
-cast-byte : tie.Need-cast-byte
-cast-byte c = search needs
-
-slice-write-bytes : tie.Need-slice-write-bytes
-slice-write-bytes c = search needs
-
-same-length : tie.Need-same-length
-same-length c = search needs
-
 returns : tie.Need-returns
 returns c =
     rw (c .before .number2 .ensures, c .before .before .number .ensures)
@@ -38,12 +17,12 @@ pub put-byte-spec : {M : Type 1} → statement M
 put-byte-spec =
     tie.close
     (tie.spec
-    number-requires
-    cast-at
-    add-number
-    number-requires-2
-    cast-byte
-    slice-write-bytes
-    same-length
+    (λ c κs. search needs)
+    (λ c. search needs)
+    (λ c. search needs)
+    (λ c κs. search needs)
+    (λ c. search needs)
+    (λ c. search needs)
+    (λ c. search needs)
     returns
     returns-2)

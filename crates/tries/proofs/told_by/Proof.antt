@@ -14,18 +14,6 @@ unfolding toldBy
 returns-2 c =
     rw (ne-eqb _ _ (c .before .if1 .left), ne-eqb _ _ (c .if2 .taken))
 
-mul-result : tie.Need-mul-result
-mul-result c = search needs
-
-cast-result : tie.Need-cast-result
-cast-result c = search needs
-
-add-result : tie.Need-add-result
-add-result c = search needs
-
-cast-result-2 : tie.Need-cast-result-2
-cast-result-2 c = search needs
-
 returns-3 : tie.Need-returns-3
 unfolding toldBy
 returns-3 c =
@@ -34,4 +22,4 @@ returns-3 c =
 pub told-by-spec : {M : Type 1} → statement M
 told-by-spec =
     tie.close
-    (tie.spec returns returns-2 mul-result cast-result add-result cast-result-2 returns-3)
+    (tie.spec returns returns-2 (λ c. search needs) (λ c. search needs) (λ c. search needs) (λ c. search needs) returns-3)

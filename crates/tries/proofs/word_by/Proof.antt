@@ -5,9 +5,6 @@ use borrow.Author.Needs.{needs}
 use Rattle.tries.proofs.word_by.Statement.{statement}
 use Rattle.tries.proofs.word_by.Tie as tie
 
-add-result : tie.Need-add-result
-add-result c = search needs
-
 returns : tie.Need-returns
 unfolding wordBy
 returns c = rw (eq-eqb _ _ (c .if1 .taken))
@@ -17,4 +14,4 @@ unfolding wordBy
 returns-2 c = rw (ne-eqb _ _ (c .if1 .left))
 
 pub word-by-spec : {M : Type 1} → statement M
-word-by-spec = tie.close (tie.spec add-result returns returns-2)
+word-by-spec = tie.close (tie.spec (λ c. search needs) returns returns-2)

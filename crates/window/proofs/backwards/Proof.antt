@@ -17,9 +17,6 @@ Inv-loop old n new k c limit settled first s₀ x₀ s x = Held (flatDemand old 
 abbrev μ-loop : tie.MeasureT-loop
 μ-loop old n new k c limit settled first s₀ x₀ s x = x
 
-take-requires : tie.Need-take-requires Inv-loop μ-loop
-take-requires c κs = search needs
-
 loop-holds : tie.Need-loop-holds Inv-loop μ-loop
 loop-holds c =
     let a = c .before .before .before .args in
@@ -28,9 +25,6 @@ loop-holds c =
     let fam = flat-family (a .old .now) (a .n) (a .new .now) (a .k) (a .c) (q .0 .2) in
     let g = start f (a .c) (a .limit) fam (a .settled) (a .first) (q .1 .0) (q .1 .1) in
     rw (c .take .ensures) (g .held, λ y h l. g .fine y h)
-
-sub-prev-phase : tie.Need-sub-prev-phase Inv-loop μ-loop
-sub-prev-phase c = search needs
 
 prev-phase-requires : tie.Need-prev-phase-requires Inv-loop μ-loop
 prev-phase-requires c κs =
@@ -55,9 +49,6 @@ look-requires c κs =
       held-less f (a .c) (a .limit) fam (l .x) (c .prev-phase .result + 1) (l .s) (omega (arith, level c .within)) (l .inv .0),
     )
 
-enum-known-r : tie.Need-enum-known-r Inv-loop μ-loop
-enum-known-r c = search needs
-
 loop-less : tie.Need-loop-less Inv-loop μ-loop
 loop-less c = omega (arith, level (c .before .before .before .before) .within)
 
@@ -75,9 +66,6 @@ loop-again c =
     let calm : (y : ℕ) → z ≤ y → y < l .x → (t : ℕ) → f y t ≤ f z t =
     λ y h i t. flat-calm (a .old .now) (a .n) (a .new .now) (a .k) (a .c) z y t h (g .level z y (omega arith) h (omega arith)) in
     (w .held, λ y h i. ⊎-elim (λ j. w .keeps y (omega (arith, g .within)) (l .inv .1 y j i)) (λ j. fine-still f (a .c) (a .limit) fam _ z y h (calm y h j) (w .fine)) (le-or-lt (l .x) y))
-
-enum-told : tie.Need-enum-told Inv-loop μ-loop
-enum-told c = search needs
 
 returns : tie.Need-returns Inv-loop μ-loop
 unfolding Tells
@@ -100,14 +88,14 @@ backwards-spec =
     (tie.spec
     Inv-loop
     μ-loop
-    take-requires
+    (λ c κs. search needs)
     loop-holds
-    sub-prev-phase
+    (λ c. search needs)
     prev-phase-requires
     look-requires
-    enum-known-r
+    (λ c. search needs)
     loop-less
     loop-again
-    enum-told
+    (λ c. search needs)
     returns
     returns-2)

@@ -26,9 +26,6 @@ see-requires c κs =
     let q = c .before .before .before .before .pre in
     ((q .0, q .1, q .2, q .3, q .4, omega arith), c .before .loop .inv)
 
-enum-known-r : tie.Need-enum-known-r Inv-loop μ-loop
-enum-known-r c = search needs
-
 returns : tie.Need-returns Inv-loop μ-loop
 unfolding Stepped
 returns c =
@@ -66,9 +63,6 @@ loop-again c =
     let g = still c in
     kept-next f (a .c) (a .limit) fam (l .x) (l .s) (l .inv) _ w _ (g .later) (within c) (λ y t h i. flat-calm (a .old .now) (a .n) (a .new .now) (a .k) (a .c) (l .x) y t h (g .still y h i))
 
-enum-told : tie.Need-enum-told Inv-loop μ-loop
-enum-told c = search needs
-
 returns-2 : tie.Need-returns-2 Inv-loop μ-loop
 unfolding Stepped
 returns-2 c =
@@ -97,11 +91,11 @@ forwards-spec =
     μ-loop
     loop-holds
     see-requires
-    enum-known-r
+    (λ c. search needs)
     returns
     next-phase-requires
     loop-less
     loop-again
-    enum-told
+    (λ c. search needs)
     returns-2
     returns-3)

@@ -9,9 +9,6 @@ use Rattle.window.proofs.Behind.{seen-one, seen-bar, seen-short, seen-f
 use Rattle.window.proofs.look.Statement.{statement}
 use Rattle.window.proofs.look.Tie as tie
 
-bar-of-requires : tie.Need-bar-of-requires
-bar-of-requires c κs = search needs
-
 returns : tie.Need-returns
 unfolding Turned
 returns c =
@@ -43,9 +40,6 @@ demand-requires-2 c κs =
 sub-gone : tie.Need-sub-gone
 sub-gone c = omega (arith, c .before .before .before .before .before .before .before .before .before .pre .1 .past)
 
-less-requires : tie.Need-less-requires
-less-requires c κs = search needs
-
 returns-3 : tie.Need-returns-3
 unfolding Turned
 returns-3 c =
@@ -66,15 +60,6 @@ search-requires c κs =
     let fam = flat-family (a .old .now) (a .n) (a .new .now) (a .k) (a .c) (q .0 .2) in
     ((q .0 .0, q .0 .1, omega arith, omega arith), back-climbs f (a .c) (a .limit) fam (a .x) (a .s) (q .0 .5) (q .1) _ (c .before .before .before .before .demand2 .ensures) (omega (arith, c .before .before .less .ensures, c .before .if3 .left, q .1 .past)))
 
-enum-known-t : tie.Need-enum-known-t
-enum-known-t c = search needs
-
-kept-of-requires : tie.Need-kept-of-requires
-kept-of-requires c κs = search needs
-
-enum-told : tie.Need-enum-told
-enum-told c = search needs
-
 returns-4 : tie.Need-returns-4
 unfolding Turned windowAt
 returns-4 c =
@@ -94,18 +79,18 @@ pub look-spec : {M : Type 1} → statement M
 look-spec =
     tie.close
     (tie.spec
-    bar-of-requires
+    (λ c κs. search needs)
     returns
     demand-requires
     returns-2
     demand-requires-2
     sub-gone
-    less-requires
+    (λ c κs. search needs)
     returns-3
     sub-search
     search-requires
-    enum-known-t
-    kept-of-requires
-    enum-told
+    (λ c. search needs)
+    (λ c κs. search needs)
+    (λ c. search needs)
     returns-4
     returns-5)

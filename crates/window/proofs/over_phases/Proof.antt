@@ -15,28 +15,10 @@ search-requires c κs =
     let q = c .before .before .pre in
     ((q .0, q .1, omega arith, omega arith), climb-start _ (a .limit) (a .c) (q .2) (q .3) (flat-least (a .old .now) (a .n) (a .new .now) (a .k) (a .c) (a .limit)))
 
-enum-known-last : tie.Need-enum-known-last
-enum-known-last c = search needs
-
 try-back-requires : tie.Need-try-back-requires
 unfolding windowAt
 try-back-requires c κs =
     (c .before .before .before .before .before .before .pre, closing-at _ _ (sym (c .before .before .before .search .ensures) ∙ c .before .last .given .1))
-
-enum-known-w : tie.Need-enum-known-w
-enum-known-w c = search needs
-
-enum-told : tie.Need-enum-told
-enum-told c = search needs
-
-forwards-requires : tie.Need-forwards-requires
-forwards-requires c κs = search needs
-
-enum-told-2 : tie.Need-enum-told-2
-enum-told-2 c = search needs
-
-forwards-requires-2 : tie.Need-forwards-requires-2
-forwards-requires-2 c κs = search needs
 
 returns : tie.Need-returns
 unfolding Tells courseOf windowAt
@@ -64,13 +46,13 @@ over-phases-spec =
     tie.close
     (tie.spec
     search-requires
-    enum-known-last
+    (λ c. search needs)
     try-back-requires
-    enum-known-w
-    enum-told
-    forwards-requires
-    enum-told-2
-    forwards-requires-2
+    (λ c. search needs)
+    (λ c. search needs)
+    (λ c κs. search needs)
+    (λ c. search needs)
+    (λ c κs. search needs)
     returns
     returns-2
     returns-3)

@@ -15,9 +15,6 @@ Inv-loop old n new k c x start limit t₀ t = Climbs (flatDemand old n new k c x
 abbrev μ-loop : tie.MeasureT-loop
 μ-loop old n new k c x start limit t₀ t = limit - t
 
-loop-holds : tie.Need-loop-holds Inv-loop μ-loop
-loop-holds c = search needs
-
 demand-requires : tie.Need-demand-requires Inv-loop μ-loop
 demand-requires c κs =
     let p = c .before .before .before .pre in
@@ -50,7 +47,7 @@ search-spec =
     (tie.spec
     Inv-loop
     μ-loop
-    loop-holds
+    (λ c. search needs)
     demand-requires
     loop-less
     loop-again

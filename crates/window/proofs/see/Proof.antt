@@ -7,9 +7,6 @@ use Rattle.window.proofs.Phases.{closing-at, closing-late, flat-family,
 use Rattle.window.proofs.see.Statement.{statement}
 use Rattle.window.proofs.see.Tie as tie
 
-demand-requires : tie.Need-demand-requires
-demand-requires c κs = search needs
-
 returns : tie.Need-returns
 unfolding Stepped
 returns c =
@@ -38,18 +35,6 @@ search-requires c κs =
     let b = rw (c .before .demand2 .ensures) at (c .start-at .ensures) in
     ((q .0 .0, q .0 .1, omega arith, omega arith), kept-climbs f (a .c) (a .limit) (a .x) (a .s) fam (q .0 .3) (q .0 .5) (q .1) _ b)
 
-enum-known-t : tie.Need-enum-known-t
-enum-known-t c = search needs
-
-take-requires : tie.Need-take-requires
-take-requires c κs = search needs
-
-start-after-requires : tie.Need-start-after-requires
-start-after-requires c κs = search needs
-
-enum-told : tie.Need-enum-told
-enum-told c = search needs
-
 returns-2 : tie.Need-returns-2
 unfolding Stepped windowAt
 returns-2 c =
@@ -68,14 +53,14 @@ pub see-spec : {M : Type 1} → statement M
 see-spec =
     tie.close
     (tie.spec
-    demand-requires
+    (λ c κs. search needs)
     returns
     demand-requires-2
     start-at-requires
     search-requires
-    enum-known-t
-    take-requires
-    start-after-requires
-    enum-told
+    (λ c. search needs)
+    (λ c κs. search needs)
+    (λ c κs. search needs)
+    (λ c. search needs)
     returns-2
     returns-3)

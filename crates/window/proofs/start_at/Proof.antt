@@ -14,20 +14,8 @@ returns-2 c = inl refl
 returns-3 : tie.Need-returns-3
 returns-3 c = inl refl
 
-sub-gone : tie.Need-sub-gone
-sub-gone c = search needs
-
 returns-4 : tie.Need-returns-4
 returns-4 c = inl refl
-
-add-least : tie.Need-add-least
-add-least c = search needs
-
-least-requires : tie.Need-least-requires
-least-requires c κs = search needs
-
-larger-requires : tie.Need-larger-requires
-larger-requires c κs = search needs
 
 returns-5 : tie.Need-returns-5
 returns-5 c = inr (omega arith, omega arith, omega arith, rw (c .larger .ensures, c .before .least .ensures))
@@ -39,9 +27,9 @@ start-at-spec =
     returns
     returns-2
     returns-3
-    sub-gone
+    (λ c. search needs)
     returns-4
-    add-least
-    least-requires
-    larger-requires
+    (λ c. search needs)
+    (λ c κs. search needs)
+    (λ c κs. search needs)
     returns-5)

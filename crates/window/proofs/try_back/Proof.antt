@@ -15,20 +15,11 @@ search-requires c κs =
     let q = c .before .before .pre .0 in
     ((q .0, q .1, omega arith, omega arith), climb-start _ (a .limit) (a .c) (q .2) (q .3) (flat-least (a .old .now) (a .n) (a .new .now) (a .k) (a .c) 1))
 
-enum-known-first : tie.Need-enum-known-first
-enum-known-first c = search needs
-
 backwards-requires : tie.Need-backwards-requires
 unfolding windowAt
 backwards-requires c κs =
     let q = c .before .before .before .before .before .before .pre in
     (q .0, (q .1, closing-at _ _ (sym (c .before .before .before .search .ensures) ∙ c .before .first .given .1)))
-
-enum-told : tie.Need-enum-told
-enum-told c = search needs
-
-returns : tie.Need-returns
-returns c = search needs
 
 returns-2 : tie.Need-returns-2
 unfolding Tells
@@ -37,4 +28,4 @@ returns-2 c = search needs
 pub try-back-spec : {M : Type 1} → statement M
 try-back-spec =
     tie.close
-    (tie.spec search-requires enum-known-first backwards-requires enum-told returns returns-2)
+    (tie.spec search-requires (λ c. search needs) backwards-requires (λ c. search needs) (λ c. search needs) returns-2)
