@@ -7,16 +7,18 @@
 .POSIX:
 .PHONY: run test setup text programs library lib bench soak sweep clean
 SECONDS = 60
+# rt, with its passing files in memory where there is room
+RT = TMPDIR=$$(tools/scratch) rt
 
 run: setup
-	@rt check report
+	@$(RT) check report
 	@echo
 	bin/visnumar judge examples/pump-old.blk examples/pump-new.blk
 	@echo
 	bin/visnumar explain examples/pump-old.blk examples/pump-new.blk
 
 test: setup text programs library
-	rt ci
+	$(RT) ci
 
 setup:
 	@tools/setup
@@ -30,7 +32,7 @@ text:
 
 # What users run, and the comparison with the second program.
 programs: setup
-	rt check report batch
+	$(RT) check report batch
 	tests/picture.sh
 	tests/command.sh
 	tests/examples.sh
@@ -44,13 +46,13 @@ library: lib programs
 	tests/rust-page.sh
 
 lib: setup
-	rt staticlib visnumar
+	$(RT) staticlib visnumar
 
 bench: lib
 	bench/run.sh
 
 soak: setup
-	rt check batch
+	$(RT) check batch
 	tests/soak.sh $(SECONDS)
 
 sweep: setup
