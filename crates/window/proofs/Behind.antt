@@ -27,20 +27,24 @@ module _ (f : ℕ → ℕ → ℕ) (c limit : ℕ) (fam : Family f c) where
       pub is : sweep (windowAt f limit) n ≡ Over best
       pub less : best .window < b .window
 
+    -- a phase more
+    still : (n t : ℕ) → Lower n → windowAt f limit (suc n) ≡ some t → t < b .window → Lower (suc n)
+    unfolding sweep nextOf takeOf
+    still n t l k s =
+        let e : sweep (windowAt f limit) (suc n) ≡ Over (takeOf (l .best) t (suc n)) = rw (l .is, k) in
+        ⊎-elim
+        (λ g. record { best = l .best; is = e ∙ rw (le-ltb (l .best .window) t g); less = l .less })
+        (λ g. record { best = record { window = t; phase = suc n }; is = e ∙ rw (lt-ltb (l .best .window) t g); less = s })
+        (le-or-lt t (l .best .window))
+
     lower : (n : ℕ) → n < b .phase → Lower n
-    unfolding sweep nextOf windowAt takeOf
+    unfolding sweep windowAt
     lower zero h =
-        let d = all 1 (omega arith) (omega arith) in
         record { best = record { window = 0; phase = 0 }; is = refl; less = omega (arith, window-found (f (b .phase)) limit (b .window) gives .first) }
     lower (suc n) h =
-        let l = lower n (omega arith) in
         let d = all (suc n) (omega arith) (omega arith) in
         let k = window-by (f (suc n)) limit (d .v) (d .some) (omega (arith, d .by)) (d .shuts) in
-        let e : sweep (windowAt f limit) (suc n) ≡ Over (takeOf (l .best) (k .at) (suc n)) = rw (l .is, k .is) in
-        ⊎-elim
-        (λ g. record { best = l .best; is = e ∙ rw (le-ltb (l .best .window) (k .at) g); less = l .less })
-        (λ g. record { best = record { window = k .at; phase = suc n }; is = e ∙ rw (lt-ltb (l .best .window) (k .at) g); less = omega (arith, k .by, d .less h) })
-        (le-or-lt (k .at) (l .best .window))
+        still n (k .at) (lower n (omega arith)) (k .is) (omega (arith, k .by, d .less h))
 
     taken : (n : ℕ) → suc n ≡ b .phase → Lower n → sweep (windowAt f limit) (suc n) ≡ Over b
     unfolding nextOf takeOf
