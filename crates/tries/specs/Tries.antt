@@ -56,13 +56,13 @@ damaged line b = let d = putByte 17 line (putByte 13 line b) in cond (eqb (numbe
 -- ---- lent memory
 
 -- what stands there before: 32 tasks, a block and a byte more, a block
-unfoldable pub noNumbers : List ℕ
+abbrev pub noNumbers : List ℕ
 noNumbers = replicate 224 3000000000
 
-unfoldable pub noBytes : List ℕ
+abbrev pub noBytes : List ℕ
 noBytes = replicate 513 195
 
-unfoldable pub noBlock : List ℕ
+abbrev pub noBlock : List ℕ
 noBlock = replicate blockSize 195
 
 -- two lists are the same as far as both go
