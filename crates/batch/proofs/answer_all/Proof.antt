@@ -1,7 +1,7 @@
 -- `batch::answer_all` is safe and ends. The measure is the number of turns that are left.
 -- Nothing has to hold from turn to turn, so the invariant is `Unit {0}`, the fact that says nothing, which `tt` shows.
 -- Assumes nothing.
-use native.Mathlib.Omega.{arith}
+use borrow.Author.Needs.{needs}
 use Rattle.batch.proofs.answer_all.Statement.{statement}
 use Rattle.batch.proofs.answer_all.Tie as tie
 
@@ -27,4 +27,4 @@ returns-2 : tie.Need-returns-2 Inv-loop μ-loop
 returns-2 c = tt
 
 pub answer-all-spec : {M : Type 1} → statement M
-answer-all-spec = tie.close (tie.spec Inv-loop μ-loop loop-holds answer-one-requires (λ c. omega arith) (λ c. omega arith) loop-again returns returns-2)
+answer-all-spec = tie.close (tie.spec Inv-loop μ-loop loop-holds answer-one-requires (λ c. search needs) (λ c. search needs) loop-again returns returns-2)
