@@ -8,8 +8,6 @@ use Rattle.above.proofs.rank_of.Reads as rank-of
 use Rattle.above.proofs.rank_of.Kinds as rank-of-kinds
 use Rattle.above.proofs.roll.Reads as roll
 use Rattle.above.proofs.roll.Kinds as roll-kinds
-use Rattle.above.proofs.roll_records.Reads as roll-records
-use Rattle.above.proofs.roll_records.Kinds as roll-records-kinds
 use Rattle.above.proofs.gather.Reads as gather
 use Rattle.above.proofs.gather.Kinds as gather-kinds
 use Rattle.above.proofs.left.Reads as left
@@ -22,10 +20,6 @@ rank-of-unique κs a r r′ s s′ p q = p ∙ sym q
 pub roll-unique : (κs : Lfts 1) (a : Dens κs roll-kinds.ps) (r r′ : resT roll-kinds.r κs .Denot) (s s′ : AtExit (endedOf 1 roll-kinds.ps roll-kinds.r) κs)
     → roll.Post κs a r s → roll.Post κs a r′ s′ → now (s .0) ≡ now (s′ .0)
 roll-unique κs a r r′ s s′ p q = p .0 ∙ sym (q .0)
-
-pub roll-records-unique : (κs : Lfts 2) (a : Dens κs roll-records-kinds.ps) (r r′ : resT roll-records-kinds.r κs .Denot) (s s′ : AtExit (endedOf 2 roll-records-kinds.ps roll-records-kinds.r) κs)
-    → roll-records.Post κs a r s → roll-records.Post κs a r′ s′ → now (s .0) ≡ now (s′ .0)
-roll-records-unique κs a r r′ s s′ p q = p .0 ∙ sym (q .0)
 
 pub gather-unique : (κs : Lfts 2) (a : Dens κs gather-kinds.ps) (r r′ : resT gather-kinds.r κs .Denot) (s s′ : AtExit (endedOf 2 gather-kinds.ps gather-kinds.r) κs)
     → gather.Post κs a r s → gather.Post κs a r′ s′ → (r ≡ r′) × (now (s .0) ≡ now (s′ .0))

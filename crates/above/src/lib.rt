@@ -5,8 +5,6 @@ ghost use Rattle.base.proofs.Recip.{recipOf};
 ghost use mathlib.Core.Bool.{cond};
 ghost use lib.ListN.{length};
 ghost use lib.Dec.{eqb, ltb};
-ghost use Rattle.block.specs.Format.{blockSize};
-ghost use Rattle.block.specs.Block.{tasksIn};
 ghost use Rattle.window.specs.Order.{rank};
 ghost use Rattle.above.specs.Roll.{one, Periodic, Rolled, entered, rollOf, countAbove, placed, termsAbove, leftAbove};
 use block::Table;
@@ -75,18 +73,6 @@ pub fn roll(nums: &mut [u64], table: Table)
     while j < n {
         let x = table.tasks[j];
         enter(nums, 6 * j, x);
-        j += 1;
-    }
-}
-
-// The roll of the first n records of a block.
-pub fn roll_records(nums: &mut [u64], block: &[u8], n: usize)
-    requires { ⌜ (length (now block) ≡ blockSize) × Periodic (tasksIn (now block) n) n × (6 * n ≤ length (now nums)) ⌝ }
-    ensures { λ _. ⌜ (now (nums .exit) ≡ rollOf (now (nums .entry)) (tasksIn (now (block .entry)) n) n) × Rolled (now (nums .exit)) n ⌝ }
-{
-    let mut j: usize = 0;
-    while j < n {
-        enter(nums, 6 * j, records::task_at(block, j));
         j += 1;
     }
 }

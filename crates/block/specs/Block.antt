@@ -2,7 +2,7 @@
 use Prim.Native.Nat.{ℕ, zero, suc, _+_, _*_, _/_, _%_, _-_}
 use mathlib.Core.Bool.{Bool, cond, not, _&&_}
 use mathlib.Core.List.{List, [], _∷_, _++_, flatMap}
-use lib.ListN.{length, drop, replicate}
+use lib.ListN.{length, take, drop, replicate}
 use lib.Dec.{eqb, leb, ltb}
 use Rattle.base.specs.Lists.{part, upTo}
 use Rattle.block.specs.declared.Task.{Task}
@@ -119,10 +119,14 @@ filled side (holds mode xs) l =
 unfoldable pub readOf : ℕ → List ℕ → List ℕ → Read
 readOf side b l = filled side (readingOf side b) l
 
--- the table of a list of tasks, and what the loader gives: the answer, the mode number and the table, which is empty on a refusal
+-- the table of a list of tasks, and the tasks that a table lists: the first `count` of its places
 abbrev pub tableOf : List Task → Table
 tableOf xs = record { tasks = xs ++ replicate (mostTasks - length xs) noTask; count = length xs }
 
+abbrev pub listed : Table → List Task
+listed t = take (t .count) (t .tasks)
+
+-- what the loader gives: the answer, the mode number and the table, which is empty on a refusal
 abbrev pub loaded : Reading → Loaded
 loaded (spoilt a) = record { answer = a; mode = 0; table = tableOf [] }
 loaded (holds mode xs) = record { answer = done; mode = mode; table = tableOf xs }

@@ -4,8 +4,10 @@ use mathlib.Core.Path.{_≡_}
 use mathlib.Core.List.{List}
 use lib.ListN.{length, getD}
 use Rattle.block.specs.declared.Task.{Task}
+use Rattle.block.specs.declared.Table.{Table}
 use Rattle.block.specs.Format.{mostTasks}
 use Rattle.block.specs.Checks.{noTask}
+use Rattle.block.specs.Block.{listed}
 
 -- the rules of one task, by side
 pub record Rules (side : ℕ) (x : Task) : Type 0 where
@@ -23,6 +25,12 @@ pub record Legal (side : ℕ) (xs : List Task) : Type 0 where
   pub rules : (k : ℕ) → k < length xs → Rules side (getD xs k noTask)
   pub numbers : (j k : ℕ) → j < k → k < length xs → getD xs j noTask .number ≡ getD xs k noTask .number → ⊥
   pub priorities : (j k : ℕ) → j < k → k < length xs → getD xs j noTask .priority ≡ getD xs k noTask .priority → ⊥
+
+-- a table of such tasks
+pub record Tabled (side : ℕ) (t : Table) : Type 0 where
+  pub places : length (t .tasks) ≡ mostTasks
+  pub few : t .count ≤ mostTasks
+  pub legal : Legal side (listed t)
 
 -- each field is as wide as its bytes
 pub record Small (x : Task) : Type 0 where

@@ -22,6 +22,7 @@ pub const MARK_SECOND: u8 = 0x54;
 pub const LIST_SIZE: usize = 7;
 
 // A task, as its record says it.
+#[repr(C)]
 pub struct Task {
     pub kind: u8,
     pub priority: u8,

@@ -12,7 +12,7 @@ use Rattle.block.specs.Block.{holds, readingOf}
 use Rattle.window.specs.Order.{rank}
 use Rattle.window.specs.Demand.{sumAbove, steadyDemand, phaseDemand, requestDemand}
 use Rattle.window.specs.Worst.{takeOf, nextOf, sweep}
-use Rattle.rows.specs.Row.{rowOf}
+use Rattle.row.specs.Row.{rowOf}
 use Rattle.pair.specs.Analysis.{Analysis, analysis, pairOf, analyseOf}
 use Rattle.pair.specs.Cases.{Case, accepted, lent, found, expected, cases}
 

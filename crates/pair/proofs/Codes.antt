@@ -10,9 +10,9 @@ use Rattle.block.specs.declared.Verdict.the-variants.{Refused}
 use Rattle.block.specs.Answers.{answer, firstOf}
 use Rattle.block.specs.Checks.{noTask}
 use Rattle.block.proofs.Codes.{Coded, coded-passed, coded-refused, coded-after, coded-each}
-use Rattle.rows.specs.declared.Judged.{Judged}
-use Rattle.rows.specs.declared.Judged.the-variants.{Timely, Late}
-use Rattle.rows.specs.Row.{rowOf}
+use Rattle.row.specs.declared.Judged.{Judged}
+use Rattle.row.specs.declared.Judged.the-variants.{Timely, Late}
+use Rattle.row.specs.Row.{rowOf}
 use Rattle.rows.specs.Rows.{lateCheck, lateChecks}
 
 pub late-coded : (olds news : List Task) (a : Answer) → firstOf (lateChecks olds news) ≡ Refused a → 1 ≤ a .code

@@ -1,19 +1,19 @@
 -- The ways out of the analysis: what each of its answers and reports is, from what the code knows there.
 use Prim.Native.Nat.{ℕ, _+_, _*_, _≤_, _<_}
-use mathlib.Core.Path.{_≡_, ap, _∙_}
-use mathlib.Core.List.{List, [], _++_, flatMap}
-use native.Mathlib.Omega.{arith}
+use mathlib.Core.Path.{_≡_}
+use mathlib.Core.List.{List, _++_}
 use lib.ListN.{length, drop}
 use borrow.Author.Tests.{lt-ltb, le-ltb}
-use Rattle.base.specs.Lists.{upTo}
 use Rattle.block.specs.declared.Task.{Task}
+use Rattle.block.specs.declared.Table.{Table}
 use Rattle.block.specs.declared.Answer.{Answer}
 use Rattle.block.specs.declared.Verdict.the-variants.{Passed, Refused}
 use Rattle.block.specs.Answers.{answer, done, firstOf}
-use Rattle.block.specs.Block.{countByte, modeNumber, tasksIn, holds, spoilt, blockVerdict, readingOf}
-use Rattle.block.proofs.Reading.{block-length, block-count, block-legal}
+use Rattle.block.specs.Block.{countByte, modeNumber, tasksIn, tableOf, listed, holds, spoilt, blockVerdict, readingOf}
+use Rattle.block.specs.Legal.{Tabled}
+use Rattle.block.proofs.Reading.{block-legal}
+use Rattle.block.proofs.Tables.{table-listed, table-tabled}
 use Rattle.rows.specs.Rows.{rowSize, rowsOf, lateChecks}
-use Rattle.rows.specs.Fill.{Held}
 use Rattle.pair.specs.Analysis.{Analysis, analysis, pairOf, analyseOf}
 
 -- an outcome by its two parts
@@ -37,10 +37,6 @@ module _ (olds news : List Task) (report : List ℕ) where
   unfolding pairOf firstOf
   pair-done h e = rw (le-ltb _ _ h, e)
 
-pub pair-none : (report : List ℕ) → pairOf [] [] report ≡ analysis done report
-unfolding pairOf firstOf upTo flatMap
-pair-none report = rw (le-ltb (length report) (rowSize * (0 + 0)) (omega arith))
-
 -- ---- what the checks of a block say
 
 module _ (side : ℕ) (b : List ℕ) where
@@ -53,16 +49,13 @@ module _ (side : ℕ) (b : List ℕ) where
     unfolding readingOf
     verdict-holds = rw passed
 
-    pub verdict-none : countByte b ≡ 0 → readingOf side b ≡ holds (modeNumber b) []
-    unfolding upTo
-    verdict-none z = verdict-holds ∙ ap (λ (n : ℕ). holds (modeNumber b) (tasksIn b n)) z
+    -- its table
+    module _ (n : ℕ) (counted : n ≡ countByte b) (t : Table) (is : t ≡ tableOf (tasksIn b n)) where
+      pub table-holds : readingOf side b ≡ holds (modeNumber b) (listed t)
+      table-holds = rw (is, table-listed (tasksIn b n), counted) verdict-holds
 
-    module _ (n : ℕ) (counted : n ≡ countByte b) where
-      pub block-holds : readingOf side b ≡ holds (modeNumber b) (tasksIn b n)
-      block-holds = rw counted verdict-holds
-
-      pub block-held : Held side b n
-      block-held = rw counted (record { whole = block-length side b passed; few = block-count side b passed; legal = block-legal side b passed })
+      pub table-keeps : Tabled side t
+      table-keeps = rw (is, counted) (table-tabled side (tasksIn b (countByte b)) (block-legal side b passed))
 
 module _ (oldBlock newBlock report : List ℕ) where
   pub analyse-old : (a : Answer) → readingOf 0 oldBlock ≡ spoilt a → analyseOf oldBlock newBlock report ≡ analysis a report

@@ -14,7 +14,7 @@ use Rattle.block.specs.declared.Verdict.the-variants.{Passed, Refused}
 use Rattle.block.specs.Answers.{firstOf}
 use Rattle.block.specs.Checks.{noTask}
 use Rattle.block.specs.Block.{Reading, holds, spoilt, readingOf}
-use Rattle.rows.specs.Row.{rowOf}
+use Rattle.row.specs.Row.{rowOf}
 use Rattle.rows.specs.Rows.{rowSize, rowNumbers, rowsOf, lateChecks}
 use Rattle.pair.specs.Analysis.{pairOf, judged, settled, pairChecks, analyseOf}
 use Rattle.pair.specs.Accepted.{Accepted}

@@ -25,10 +25,10 @@ use Rattle.window.specs.Order.{Kind, completed, aborted, new, kindOf}
 use Rattle.window.specs.Demand.{steadyDemand, phaseDemand, requestDemand}
 use Rattle.window.specs.Worst.{sweep}
 use Rattle.window.proofs.Sweep.{IsSwept, sweep-is}
-use Rattle.rows.specs.declared.Row.{Row}
-use Rattle.rows.specs.declared.Judged.{Judged}
-use Rattle.rows.specs.declared.Judged.the-variants.{Timely, Late}
-use Rattle.rows.specs.Row.{steadyWindow, phaseWindow, requestWindow, completedRow, abortedRow, newRow, rowBy, rowOf}
+use Rattle.row.specs.declared.Row.{Row}
+use Rattle.row.specs.declared.Judged.{Judged}
+use Rattle.row.specs.declared.Judged.the-variants.{Timely, Late}
+use Rattle.row.specs.Row.{steadyWindow, phaseWindow, requestWindow, completedRow, abortedRow, newRow, rowBy, rowOf}
 use Rattle.rows.specs.Rows.{rowSize, lateCheck, lateChecks}
 use Rattle.pair.specs.Analysis.{pairOf, analyseOf}
 use Rattle.pair.specs.Late.{Closing, Unclosed, LateKind, IsLate, DetailKind, LateBy, InTime, SomeLate, FirstLate, Told, in-time, old-late, new-late}

@@ -1,10 +1,11 @@
 // The analysis of two blocks.
 ghost use mathlib.Core.Path.{_≡_};
 ghost use Rattle.block.specs.Answers.{answer};
-ghost use Rattle.block.specs.Block.{tasksIn};
-ghost use Rattle.rows.specs.Fill.{Held};
+ghost use Rattle.block.specs.Block.{listed};
+ghost use Rattle.block.specs.Legal.{Tabled};
 ghost use Rattle.pair.specs.Analysis.{pairOf, analyseOf};
 use block::Answer;
+use block::Table;
 use block::Verdict;
 use rows::ROW_SIZE;
 
@@ -21,20 +22,20 @@ fn plain(code: u32) -> Answer
 }
 
 // Codes 8 to 10, and the rows once nothing is refused.
-fn settle(old: &[u8], n: usize, new: &[u8], k: usize, report: &mut [u32]) -> Answer
-    requires { ⌜ Held 0 (now old) n × Held 1 (now new) k ⌝ }
-    ensures { λ r. ⌜ (r ≡ pairOf (tasksIn (now (old .entry)) n) (tasksIn (now (new .entry)) k) (now (report .entry)) .reply) × (now (report .exit) ≡ pairOf (tasksIn (now (old .entry)) n) (tasksIn (now (new .entry)) k) (now (report .entry)) .report) ⌝ }
+pub fn settle(old: Table, new: Table, report: &mut [u32]) -> Answer
+    requires { ⌜ Tabled 0 old × Tabled 1 new ⌝ }
+    ensures { λ r. ⌜ (r ≡ pairOf (listed old) (listed new) (now (report .entry)) .reply) × (now (report .exit) ≡ pairOf (listed old) (listed new) (now (report .entry)) .report) ⌝ }
 {
-    if report.len() < ROW_SIZE * (n + k) {
+    if report.len() < ROW_SIZE * (old.count + new.count) {
         return plain(8);
     }
-    match rows::rows_of(old, n, new, k, report) {
+    match rows::rows_of(old, new, report) {
         Verdict::Refused(a) => a,
         Verdict::Passed => plain(0),
     }
 }
 
-// Codes 1 to 7 on the old block, then on the new one; then the pair. Two empty tables have no row and nothing that could be late.
+// Codes 1 to 7 on the old block, then on the new one; then the pair of their tables.
 pub fn analyse(old: &[u8], new: &[u8], report: &mut [u32]) -> Answer
     ensures { λ r. ⌜ (r ≡ analyseOf (now (old .entry)) (now (new .entry)) (now (report .entry)) .reply) × (now (report .exit) ≡ analyseOf (now (old .entry)) (now (new .entry)) (now (report .entry)) .report) ⌝ }
 {
@@ -44,10 +45,7 @@ pub fn analyse(old: &[u8], new: &[u8], report: &mut [u32]) -> Answer
     if let Verdict::Refused(a) = checks::check_block(new, 1) {
         return a;
     }
-    let n = base::count(old[3]);
-    let k = base::count(new[3]);
-    if n + k == 0 {
-        return plain(0);
-    }
-    settle(old, n, new, k, report)
+    let olds = tasks::table_of(old, base::count(old[3]));
+    let news = tasks::table_of(new, base::count(new[3]));
+    settle(olds, news, report)
 }

@@ -13,7 +13,7 @@ use Rattle.block.specs.Block.{wordSum, headed, headChecks, blockVerdict, readin
 use Rattle.window.specs.Order.{rank}
 use Rattle.window.specs.Demand.{sumAbove, steadyDemand, phaseDemand, requestDemand}
 use Rattle.window.specs.Worst.{takeOf, nextOf, sweep}
-use Rattle.rows.specs.Row.{rowOf}
+use Rattle.row.specs.Row.{rowOf}
 use Rattle.pair.specs.Analysis.{analyseOf, pairOf}
 use Rattle.render.specs.Printed.{oldBlock, newBlock, found, modeHeld, tasksHeld, refusedLine, changeLine, letterOf, taskLine, taskLines, doneLines, linesOf, printed}
 use Rattle.report.specs.Examples.{inputA, linesA, lineC, lineLong}

@@ -13,7 +13,6 @@ use native.Mathlib.Numerals.{add-one}
 use Rattle.base.specs.Lists.{upTo}
 use Rattle.base.proofs.Lists.{up-length, up-at, flat-length, flat-part}
 use Rattle.base.proofs.Search.{le-or-lt}
-use Rattle.block.proofs.Reading.{tasks-length}
 use Rattle.block.proofs.Verdicts.{first-on, first-last}
 use Rattle.block.specs.declared.Task.{Task}
 use Rattle.block.specs.declared.Answer.{Answer}
@@ -21,15 +20,13 @@ use Rattle.block.specs.declared.Verdict.{Verdict}
 use Rattle.block.specs.declared.Verdict.the-variants.{Passed, Refused}
 use Rattle.block.specs.Answers.{firstOf}
 use Rattle.block.specs.Checks.{noTask}
-use Rattle.block.specs.Record.{taskOf}
-use Rattle.block.specs.Block.{recordPart, tasksIn}
 use Rattle.block.specs.Legal.{Legal}
-use Rattle.rows.specs.declared.Row.{Row}
-use Rattle.rows.specs.declared.Judged.{Judged}
-use Rattle.rows.specs.declared.Judged.the-variants.{Timely, Late}
-use Rattle.rows.specs.Row.{rowOf}
+use Rattle.row.specs.declared.Row.{Row}
+use Rattle.row.specs.declared.Judged.{Judged}
+use Rattle.row.specs.declared.Judged.the-variants.{Timely, Late}
+use Rattle.row.specs.Row.{rowOf}
 use Rattle.rows.specs.Rows.{rowSize, rowNumbers, rowsOf, lateCheck, lateChecks}
-use Rattle.rows.specs.Fill.{taskAt, checkAt, Going, Filled}
+use Rattle.rows.specs.Fill.{checkAt, Going, Filled}
 
 pub row-width : (j : Judged) → length (rowNumbers j) ≡ rowSize
 row-width (Timely r) = refl
@@ -40,29 +37,10 @@ module _ {A : Type 0} (xs ys : List A) (d : A) where
   pub in-first : (j : ℕ) → j < length xs → getD (xs ++ ys) j d ≡ getD xs j d
   in-first j h = sym (getD-take (length xs) (xs ++ ys) j d h) ∙ ap (λ (l : List A). getD l j d) (take-append-seam xs ys)
 
-  in-second : (j : ℕ) → length xs ≤ j → getD (xs ++ ys) j d ≡ getD ys (j - length xs) d
+  pub in-second : (j : ℕ) → length xs ≤ j → getD (xs ++ ys) j d ≡ getD ys (j - length xs) d
   in-second j h =
       let e : j ≡ length xs + (j - length xs) = omega arith in
       ap (λ (i : ℕ). getD (xs ++ ys) i d) e ∙ getD-append-add xs ys (j - length xs) d
-
--- the task at place j of two blocks is that of their tasks
-pub task-place : (old : List ℕ) (n : ℕ) (new : List ℕ) (k j : ℕ) → j < n + k → taskAt old n new j ≡ getD (tasksIn old n ++ tasksIn new k) j noTask
-task-place old n new k j h = ⊎-elim second first (le-or-lt n j)
-  where
-    f : ℕ → Task
-    f i = taskOf (recordPart old i)
-
-    g : ℕ → Task
-    g i = taskOf (recordPart new i)
-
-    long : length (tasksIn old n) ≡ n
-    long = tasks-length old n
-
-    first : j < n → taskAt old n new j ≡ getD (tasksIn old n ++ tasksIn new k) j noTask
-    first l = rw (lt-ltb j n l) (sym (in-first (tasksIn old n) (tasksIn new k) noTask j (omega (arith, long)) ∙ up-at f n j noTask l))
-
-    second : n ≤ j → taskAt old n new j ≡ getD (tasksIn old n ++ tasksIn new k) j noTask
-    second l = rw (le-ltb j n l) (sym (in-second (tasksIn old n) (tasksIn new k) noTask j (omega (arith, long)) ∙ rw long (up-at g k (j - n) noTask (omega arith))))
 
 module _ (xs ys : List Task) where
   pub rows-length : length (rowsOf xs ys) ≡ rowSize * (length xs + length ys)

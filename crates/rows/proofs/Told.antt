@@ -1,52 +1,61 @@
--- The rolls of a block's records, and of its table, tell of its tasks.
-use Prim.Native.Nat.{ℕ, _*_, _≤_, _<_}
-use mathlib.Core.Path.{_≡_, refl, sym, ap, _∙_}
-use mathlib.Core.List.{List}
+-- The tasks of two tables, place by place, and the roll of a table, which tells of its tasks.
+use Prim.Native.Nat.{ℕ, _+_, _-_, _*_, _≤_, _<_}
+use mathlib.Core.Path.{_≡_, sym, ap, _∙_}
+use mathlib.Core.List.{List, _++_}
 use native.Mathlib.Omega.{arith}
-use lib.ListN.{length, getD, length-append, length-replicate}
+use lib.ListN.{length, getD}
 use Rattle.block.specs.declared.Task.{Task}
 use Rattle.block.specs.declared.Table.{Table}
 use Rattle.block.specs.Format.{mostTasks}
 use Rattle.block.specs.Checks.{noTask}
-use Rattle.block.specs.Block.{tasksIn, tableOf}
-use Rattle.block.proofs.Reading.{tasks-length}
+use Rattle.block.specs.Block.{listed}
+use Rattle.block.specs.Legal.{Tabled}
+use Rattle.block.proofs.Tables.{listed-length, listed-at}
 use Rattle.above.specs.Roll.{Periodic, sixOf, rollOf, Rolled}
 use Rattle.above.proofs.Above.{roll-at}
-use Rattle.rows.specs.Fill.{Held, Told}
-use Rattle.rows.proofs.Laid.{in-first}
+use Rattle.row.specs.declared.Judged.{Judged}
+use Rattle.row.specs.Row.{rowOf}
+use Rattle.row.specs.Flat.{RowFrom}
+use Rattle.rows.specs.Fill.{Told}
+use Rattle.rows.proofs.Laid.{in-first, in-second}
+
+module _ (old new : Table) (p : Tabled 0 old) (q : Tabled 1 new) where
+  pub old-at : (j : ℕ) → j < old .count → getD (old .tasks) j noTask ≡ getD (listed old ++ listed new) j noTask
+  old-at j h =
+      sym (in-first (listed old) (listed new) noTask j (omega (arith, listed-length 0 old p)) ∙ listed-at 0 old p j h)
+
+  pub new-at : (j : ℕ) → old .count ≤ j → j < old .count + new .count → getD (new .tasks) (j - old .count) noTask ≡ getD (listed old ++ listed new) j noTask
+  new-at j h l =
+      let n = listed-length 0 old p in
+      sym (in-second (listed old) (listed new) noTask j (omega arith) ∙ rw n (listed-at 1 new q (j - old .count) (omega arith)))
+
+  pub listed-both : length (listed old) + length (listed new) ≡ old .count + new .count
+  listed-both = rw (listed-length 0 old p, listed-length 1 new q)
 
 pub within : (k m l : ℕ) → l ≡ k → m ≤ k → m ≤ l
 within k m l e h = omega arith
 
-module _ (side : ℕ) (b : List ℕ) (n : ℕ) (held : Held side b n) where
-  abbrev xs : List Task
-  xs = tasksIn b n
+module _ (side : ℕ) (t : Table) (h : Tabled side t) where
+  pub table-rolls : (m : ℕ) → m ≡ 180 → (length (t .tasks) ≡ mostTasks) × Periodic (t .tasks) (t .count) × (6 * t .count ≤ m)
+  table-rolls m e =
+      (h .places, record { few = h .few; periods = λ j l. rw (sym (listed-at side t h j l)) (h .legal .rules j (omega (arith, listed-length side t h)) .period) }, omega (arith, h .few))
 
-  pub held-periodic : Periodic xs n
-  held-periodic = record { few = held .few; periods = λ j h. held .legal .rules j (omega (arith, tasks-length b n)) .period }
-
-  -- any list that has the tasks in front
-  by-places : (zs : List Task) → ((j : ℕ) → j < n → getD zs j noTask ≡ getD xs j noTask) → (l r : List ℕ) → 6 * n ≤ length l → r ≡ rollOf l zs n → Rolled r n → Told side b n r
-  by-places zs same l r room e rolled =
+  pub table-told : (l r : List ℕ) → length l ≡ 180 → r ≡ rollOf l (t .tasks) (t .count) → Rolled r (t .count) → Told side t r
+  table-told l r m e rolled =
       record {
-        held = held;
+        tabled = h;
         rolled = rolled;
-        tells = record { count = sym (tasks-length b n); at = λ j h k i. rw e (roll-at l zs n room j h k i ∙ ap (λ (x : Task). getD (sixOf x) k 0) (same j h)) };
+        tells = record {
+          count = sym (listed-length side t h);
+          at = λ j g k i. rw e (roll-at l (t .tasks) (t .count) (omega (arith, h .few)) j g k i ∙ ap (λ (x : Task). getD (sixOf x) k 0) (sym (listed-at side t h j g)));
+        };
       }
 
-  pub records-told : (l r : List ℕ) → 6 * n ≤ length l → r ≡ rollOf l xs n → Rolled r n → Told side b n r
-  records-told = by-places xs (λ j h. refl)
+-- two tables with their rolls: how many tasks, and what the row from the rolls is
+module _ (old new : Table) (o w : List ℕ) (p : Told 0 old o) (q : Told 1 new w) where
+  pub told-few : old .count + new .count ≤ 60
+  told-few = omega (arith, p .tabled .few, q .tabled .few)
 
-  module _ (t : Table) (is : t ≡ tableOf xs) where
-    counted : t .count ≡ n
-    counted = ap (λ (x : Table). x .count) is ∙ tasks-length b n
-
-    same : (j : ℕ) → j < n → getD (t .tasks) j noTask ≡ getD xs j noTask
-    same j h = ap (λ (x : Table). getD (x .tasks) j noTask) is ∙ in-first xs _ noTask j (omega (arith, tasks-length b n))
-
-    pub table-rolls : (m : ℕ) → 6 * n ≤ m → (length (t .tasks) ≡ mostTasks) × Periodic (t .tasks) (t .count) × (6 * t .count ≤ m)
-    table-rolls m h =
-        (ap (λ (x : Table). length (x .tasks)) is ∙ simp (length-append, length-replicate) (omega (arith, tasks-length b n, held .few)), rw counted (record { few = held .few; periods = λ j g. rw (same j g) (held-periodic .periods j g) }), rw counted h)
-
-    pub table-told : (l r : List ℕ) → 6 * n ≤ length l → r ≡ rollOf l (t .tasks) (t .count) → Rolled r (t .count) → Told side b n r
-    table-told l r room e rolled = by-places (t .tasks) same l r room (rw counted at e) (rw counted at rolled)
+  pub told-row : (j : ℕ) (i : Task) (r : Judged) → RowFrom o (old .count) w (new .count) i r → i ≡ getD (listed old ++ listed new) j noTask → r ≡ rowOf (listed old) (listed new) (getD (listed old ++ listed new) j noTask)
+  told-row j i r f e =
+      f (listed old) (listed new) (p .tells) (q .tells) (p .tabled .legal) (q .tabled .legal) ∙ ap (rowOf (listed old) (listed new)) e

@@ -7,8 +7,8 @@ use denote.Triple.Clauses.{AtExit}
 use Rattle.rows.proofs.rows_of.Reads as rows-of
 use Rattle.rows.proofs.rows_of.Kinds as rows-of-kinds
 
-pub rows-of-unique : (κs : Lfts 3) (a : Dens κs rows-of-kinds.ps) (r r′ : resT rows-of-kinds.r κs .Denot) (s s′ : AtExit (endedOf 3 rows-of-kinds.ps rows-of-kinds.r) κs)
-    → rows-of.Post κs a r s → rows-of.Post κs a r′ s′ → (r ≡ r′) × (now (s .1 .1 .1 .1 .0) ≡ now (s′ .1 .1 .1 .1 .0))
+pub rows-of-unique : (κs : Lfts 1) (a : Dens κs rows-of-kinds.ps) (r r′ : resT rows-of-kinds.r κs .Denot) (s s′ : AtExit (endedOf 1 rows-of-kinds.ps rows-of-kinds.r) κs)
+    → rows-of.Post κs a r s → rows-of.Post κs a r′ s′ → (r ≡ r′) × (now (s .1 .1 .0) ≡ now (s′ .1 .1 .0))
 rows-of-unique κs a r r′ s s′ p q =
     let e = p .0 ∙ sym (q .0) in
     (e, rw e at (p .1) ∙ sym (q .1))

@@ -1,4 +1,2 @@
 pub mod Fill
-pub mod Flat
-pub mod Row
 pub mod Rows

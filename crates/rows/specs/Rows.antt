@@ -8,9 +8,9 @@ use Rattle.block.specs.declared.Verdict.{Verdict}
 use Rattle.block.specs.declared.Verdict.the-variants.{Passed, Refused}
 use Rattle.block.specs.Answers.{answer}
 use Rattle.block.specs.Checks.{noTask}
-use Rattle.rows.specs.declared.Judged.{Judged}
-use Rattle.rows.specs.declared.Judged.the-variants.{Timely, Late}
-use Rattle.rows.specs.Row.{rowOf}
+use Rattle.row.specs.declared.Judged.{Judged}
+use Rattle.row.specs.declared.Judged.the-variants.{Timely, Late}
+use Rattle.row.specs.Row.{rowOf}
 
 -- three numbers a row
 abbrev pub rowSize : ℕ

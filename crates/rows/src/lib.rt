@@ -1,129 +1,27 @@
 // The rows of a pair: the row of each task, or the first late one.
 ghost use mathlib.Core.Path.{_≡_};
-ghost use Prim.Native.Nat.{ℕ, _+_, _*_, _<_, _≤_, _-_};
-ghost use mathlib.Core.List.{List};
-ghost use lib.ListN.{length};
-ghost use Rattle.block.specs.Format.{blockSize, mostTasks};
-ghost use Rattle.block.specs.Answers.{firstOf};
-ghost use Rattle.block.specs.Block.{tasksIn};
-ghost use Rattle.term.specs.Terms.{Ready, flatDemand};
-ghost use Rattle.window.specs.Worst.{sweep};
-ghost use Rattle.window.specs.Phases.{closingOf, windowAt};
-ghost use Rattle.above.specs.Roll.{Rolled};
-ghost use Rattle.rows.specs.Flat.{flatSteady, flatRequest, RowFrom};
-ghost use Rattle.rows.specs.Row.{completedRow, abortedRow, row, newRow};
-ghost use Rattle.rows.specs.Rows.{rowSize, rowNumbers, rowsOf, lateChecks, reported};
-ghost use Rattle.rows.specs.Fill.{Held, Told, taskAt, checkAt, Filled, Reported};
+ghost use Prim.Native.Nat.{ℕ, _+_, _*_, _<_, _≤_};
+ghost use mathlib.Core.List.{List, _++_};
+ghost use lib.ListN.{length, getD};
 ghost use lib.Seq.{sets};
-ghost use Rattle.rows.specs.declared.Judged.the-variants.{Timely, Late};
+ghost use Rattle.block.specs.Answers.{firstOf};
+ghost use Rattle.block.specs.Block.{listed};
+ghost use Rattle.block.specs.Checks.{noTask};
+ghost use Rattle.block.specs.Legal.{Tabled};
+ghost use Rattle.above.specs.Roll.{Rolled};
+ghost use Rattle.row.specs.declared.Judged.the-variants.{Timely, Late};
+ghost use Rattle.row.specs.Flat.{RowFrom};
+ghost use Rattle.rows.specs.Rows.{rowSize, rowNumbers, rowsOf, lateChecks, reported};
+ghost use Rattle.rows.specs.Fill.{Told, checkAt, Filled};
 use block::Answer;
+use block::Table;
 use block::Task;
 use block::Verdict;
-use window::Closing;
-use window::Swept;
+use row::Judged;
+use row::Row;
 
 // Three numbers a row.
 pub const ROW_SIZE: usize = 3;
-
-pub struct Row {
-    pub first: u32,
-    pub second: u32,
-    pub third: u32,
-}
-
-// A task's row, or the detail of its lateness.
-pub enum Judged {
-    Timely(Row),
-    Late(u32),
-}
-
-fn narrow(x: u64) -> u32
-    requires { ⌜ x < 4294967296 ⌝ }
-    ensures { λ r. ⌜ r ≡ x ⌝ }
-{
-    x as u32
-}
-
-// The window of the terms alone, up to d.
-fn steady(terms: &[u64], n: usize, c: u64, d: u64) -> Closing
-    requires { ⌜ Ready (now terms) n × (1 ≤ c) × (c ≤ d) × (d < 65536) ⌝ }
-    ensures { λ r. ⌜ r ≡ closingOf (flatSteady (now (terms .entry)) n c d) ⌝ }
-{
-    window::search(terms, n, terms, 0, c, d, c, d)
-}
-
-// The window from the request, up to the limit.
-fn request(terms: &[u64], k: usize, c: u64, limit: u64) -> Closing
-    requires { ⌜ Ready (now terms) k × (1 ≤ c) × (c < 2097152) × (limit < 131072) ⌝ }
-    ensures { λ r. ⌜ r ≡ closingOf (flatRequest (now (terms .entry)) k c limit) ⌝ }
-{
-    if limit < c {
-        return Closing::Late;
-    }
-    window::search(terms, 0, terms, k, c, 0, c, limit)
-}
-
-fn timely(first: u64, second: u64, third: u64) -> Judged
-    requires { ⌜ (first < 4294967296) × (second < 4294967296) × (third < 4294967296) ⌝ }
-    ensures { λ r. ⌜ r ≡ Timely (row first second third) ⌝ }
-{
-    Judged::Timely(Row {
-        first: narrow(first),
-        second: narrow(second),
-        third: narrow(third),
-    })
-}
-
-fn completed_row<'a>(old: &'a [u64], n: usize, new: &'a [u64], k: usize, c: u64, d: u64) -> Judged
-    requires { ⌜ Ready (now old) n × Ready (now new) k × (1 ≤ c) × (c ≤ d) × (d < 65536) ⌝ }
-    ensures { λ r. ⌜ r ≡ completedRow (sweep (windowAt (flatDemand (now (old .entry)) n (now (new .entry)) k c) d) d) (flatSteady (now (old .entry)) n c d) ⌝ }
-{
-    // with nothing above, every window is C
-    if n + k == 0 {
-        return timely(c, 1, c);
-    }
-    let found = window::over_phases(old, n, new, k, c, d);
-    let swept = found.swept;
-    match swept {
-        Swept::Over(s) => {
-            let w = s.window;
-            let x = s.phase;
-            let last = found.last;
-            match last {
-                Closing::At(t) => timely(w, x, t),
-                Closing::Late => timely(w, x, 0),
-            }
-        }
-        Swept::LateAt(x) => Judged::Late(narrow(x)),
-    }
-}
-
-fn aborted_row(old: &[u64], n: usize, c: u64, d: u64) -> Judged
-    requires { ⌜ Ready (now old) n × (1 ≤ c) × (c ≤ d) × (d < 65536) ⌝ }
-    ensures { λ r. ⌜ r ≡ abortedRow (flatSteady (now (old .entry)) n c d) ⌝ }
-{
-    match steady(old, n, c, d) {
-        Closing::At(t) => timely(t, 0, t),
-        Closing::Late => Judged::Late(0),
-    }
-}
-
-// own: the new terms with no offset; new: with their offsets; c: what the request finds.
-fn new_row<'a>(own: &'a [u64], n: usize, new: &'a [u64], k: usize, left: u64, i: Task) -> Judged
-    requires { ⌜ Ready (now own) n × Ready (now new) k × (left ≤ 1966050) × (1 ≤ i .execution) × (i .execution ≤ i .deadline) ⌝ }
-    ensures { λ r. ⌜ r ≡ newRow i (flatSteady (now (own .entry)) n (i .execution) (i .deadline)) (flatRequest (now (new .entry)) k (i .execution + left) (i .offset + i .deadline)) ⌝ }
-{
-    let c = base::wider(i.execution);
-    let d = base::wider(i.deadline);
-    let y = base::wider(i.offset);
-    match steady(own, n, c, d) {
-        Closing::At(s) => match request(new, k, c + left, y + d) {
-            Closing::At(w) => timely(term::larger(s, term::less(w, y)), w, s),
-            Closing::Late => Judged::Late(1),
-        },
-        Closing::Late => Judged::Late(0),
-    }
-}
 
 // The row of a completed task i, from the rolls of both tables; the buffers are for its terms.
 fn completed(
@@ -142,7 +40,7 @@ fn completed(
     let p = above::rank_of(i);
     let a = above::gather(before, olds, n, p, 3);
     let b = above::gather(after, news, k, p, 4);
-    completed_row(
+    row::completed_row(
         before,
         a,
         after,
@@ -159,7 +57,7 @@ fn aborted(before: &mut [u64], olds: &[u64], n: usize, i: Task) -> Judged
     ensures { λ r. ⌜ (length (now (before .exit)) ≡ length (now (before .entry))) × ((w : List ℕ) (k : ℕ) → RowFrom (now (olds .entry)) n w k i r) ⌝ }
 {
     let a = above::gather(before, olds, n, above::rank_of(i), 4);
-    aborted_row(before, a, base::wider(i.execution), base::wider(i.deadline))
+    row::aborted_row(before, a, base::wider(i.execution), base::wider(i.deadline))
 }
 
 // The row of a new task i.
@@ -180,7 +78,7 @@ fn entering(
     let left = above::left(olds, n, p);
     let a = above::gather(before, news, k, p, 3);
     let b = above::gather(after, news, k, p, 4);
-    new_row(before, a, after, b, left, i)
+    row::new_row(before, a, after, b, left, i)
 }
 
 // The row of i.
@@ -223,17 +121,6 @@ fn put_row(numbers: &mut [u32], at: usize, r: Row)
     numbers[at + 2] = r.third;
 }
 
-// The task at place j of a pair, the n old ones first.
-fn task_at(old: &[u8], n: usize, new: &[u8], j: usize) -> Task
-    requires { ⌜ (length (now old) ≡ blockSize) × (length (now new) ≡ blockSize) × (n ≤ mostTasks) × (j < n + mostTasks) ⌝ }
-    ensures { λ r. ⌜ r ≡ taskAt (now (old .entry)) n (now (new .entry)) j ⌝ }
-{
-    if j < n {
-        return records::task_at(old, j);
-    }
-    records::task_at(new, j - n)
-}
-
 // The refusal of the task at place j, which is late by the detail d.
 fn late(n: usize, j: usize, d: u32) -> Verdict
     requires { ⌜ j < 4294967296 ⌝ }
@@ -261,20 +148,24 @@ fn fill(
     before: &mut [u64],
     after: &mut [u64],
     olds: &[u64],
-    n: usize,
     news: &[u64],
-    k: usize,
-    old: &[u8],
-    new: &[u8],
+    old: Table,
+    new: Table,
 ) -> Verdict
-    requires { ⌜ Told 0 (now old) n (now olds) × Told 1 (now new) k (now news) ⌝ }
-    requires { ⌜ (4 * n ≤ length (now before)) × (4 * k ≤ length (now before)) × (4 * k ≤ length (now after)) × (rowSize * (n + k) ≤ length (now numbers)) ⌝ }
-    ensures { λ r. ⌜ (length (now (numbers .exit)) ≡ length (now (numbers .entry))) × Filled (tasksIn (now (old .entry)) n) (tasksIn (now (new .entry)) k) (now (numbers .exit)) r ⌝ }
+    requires { ⌜ Told 0 old (now olds) × Told 1 new (now news) ⌝ }
+    requires { ⌜ (120 ≤ length (now before)) × (120 ≤ length (now after)) × (180 ≤ length (now numbers)) ⌝ }
+    ensures { λ r. ⌜ (length (now (numbers .exit)) ≡ length (now (numbers .entry))) × Filled (listed old) (listed new) (now (numbers .exit)) r ⌝ }
 {
+    let n = old.count;
+    let k = new.count;
     let m = n + k;
     let mut j: usize = 0;
     while j < m {
-        let i = task_at(old, n, new, j);
+        let i = if j < n {
+            old.tasks[j]
+        } else {
+            new.tasks[j - n]
+        };
         match row_of(before, after, olds, n, news, k, i) {
             Judged::Timely(r) => {
                 put_row(numbers, ROW_SIZE * j, r);
@@ -288,94 +179,30 @@ fn fill(
     Verdict::Passed
 }
 
-// The rows of a pair, given its rolls and room to work in: put to the front of the report, or the first late task.
-fn judge(
-    numbers: &mut [u32],
-    before: &mut [u64],
-    after: &mut [u64],
-    olds: &[u64],
-    n: usize,
-    news: &[u64],
-    k: usize,
-    old: &[u8],
-    new: &[u8],
-    report: &mut [u32],
-) -> Verdict
-    requires { ⌜ Told 0 (now old) n (now olds) × Told 1 (now new) k (now news) ⌝ }
-    requires { ⌜ (4 * n ≤ length (now before)) × (4 * k ≤ length (now before)) × (4 * k ≤ length (now after)) × (rowSize * (n + k) ≤ length (now numbers)) × (rowSize * (n + k) ≤ length (now report)) ⌝ }
-    ensures { λ r. ⌜ Reported (now (old .entry)) n (now (new .entry)) k (now (report .entry)) (now (report .exit)) r ⌝ }
-{
-    match fill(numbers, before, after, olds, n, news, k, old, new) {
-        Verdict::Refused(a) => Verdict::Refused(a),
-        Verdict::Passed => {
-            let size = ROW_SIZE * (n + k);
-            base::copy_numbers(report, &numbers[0..size]);
-            Verdict::Passed
-        }
-    }
-}
-
-// For pairs of at most three tasks a side: rolled straight from the records, in little room, so that little is cleared.
-fn few(old: &[u8], n: usize, new: &[u8], k: usize, report: &mut [u32]) -> Verdict
-    requires { ⌜ Held 0 (now old) n × Held 1 (now new) k × (n ≤ 3) × (k ≤ 3) × (rowSize * (n + k) ≤ length (now report)) ⌝ }
-    ensures { λ r. ⌜ Reported (now (old .entry)) n (now (new .entry)) k (now (report .entry)) (now (report .exit)) r ⌝ }
-{
-    let mut olds = [0u64; 18];
-    let mut news = [0u64; 18];
-    let mut before = [0u64; 12];
-    let mut after = [0u64; 12];
-    let mut numbers = [0u32; 18];
-    above::roll_records(&mut olds, old, n);
-    above::roll_records(&mut news, new, k);
-    judge(
-        &mut numbers,
-        &mut before,
-        &mut after,
-        &olds,
-        n,
-        &news,
-        k,
-        old,
-        new,
-        report,
-    )
-}
-
-// For every other pair: rolled from its tables.
-fn many(old: &[u8], n: usize, new: &[u8], k: usize, report: &mut [u32]) -> Verdict
-    requires { ⌜ Held 0 (now old) n × Held 1 (now new) k × (rowSize * (n + k) ≤ length (now report)) ⌝ }
-    ensures { λ r. ⌜ Reported (now (old .entry)) n (now (new .entry)) k (now (report .entry)) (now (report .exit)) r ⌝ }
+// The rows of a pair of tables, put to the front of the report, or the first late task.
+pub fn rows_of(old: Table, new: Table, report: &mut [u32]) -> Verdict
+    requires { ⌜ Tabled 0 old × Tabled 1 new × (rowSize * (old .count + new .count) ≤ length (now report)) ⌝ }
+    ensures { λ r. ⌜ (r ≡ firstOf (lateChecks (listed old) (listed new))) × (now (report .exit) ≡ reported r (rowsOf (listed old) (listed new)) (now (report .entry))) ⌝ }
 {
     let mut olds = [0u64; 180];
     let mut news = [0u64; 180];
     let mut before = [0u64; 120];
     let mut after = [0u64; 120];
     let mut numbers = [0u32; 180];
-    above::roll(&mut olds, tasks::table_of(old, n));
-    above::roll(&mut news, tasks::table_of(new, k));
-    judge(
+    above::roll(&mut olds, old);
+    above::roll(&mut news, new);
+    let verdict = fill(
         &mut numbers,
         &mut before,
         &mut after,
         &olds,
-        n,
         &news,
-        k,
         old,
         new,
-        report,
-    )
-}
-
-// The rows of the first n records of an old block and the first k of a new one, put to the front of the report, or the first late task.
-pub fn rows_of(old: &[u8], n: usize, new: &[u8], k: usize, report: &mut [u32]) -> Verdict
-    requires { ⌜ Held 0 (now old) n × Held 1 (now new) k × (rowSize * (n + k) ≤ length (now report)) ⌝ }
-    ensures { λ r. ⌜ (r ≡ firstOf (lateChecks (tasksIn (now (old .entry)) n) (tasksIn (now (new .entry)) k))) × (now (report .exit) ≡ reported r (rowsOf (tasksIn (now (old .entry)) n) (tasksIn (now (new .entry)) k)) (now (report .entry))) ⌝ }
-{
-    if n <= 3 {
-        if k <= 3 {
-            return few(old, n, new, k, report);
-        }
+    );
+    if let Verdict::Passed = verdict {
+        let size = ROW_SIZE * (old.count + new.count);
+        base::copy_numbers(report, &numbers[0..size]);
     }
-    many(old, n, new, k, report)
+    verdict
 }

@@ -16,8 +16,8 @@ use Rattle.block.specs.declared.Task.{Task}
 use Rattle.window.specs.Order.{completed, aborted, new, kindOf, rank}
 use Rattle.window.specs.Demand.{sumAbove, steadyDemand, phaseDemand}
 use Rattle.window.specs.Worst.{takeOf, nextOf, sweep}
-use Rattle.rows.specs.declared.Judged.the-variants.{Timely}
-use Rattle.rows.specs.Row.{row, rowOf}
+use Rattle.row.specs.declared.Judged.the-variants.{Timely}
+use Rattle.row.specs.Row.{row, rowOf}
 use Rattle.run.specs.Run.{Slot, idle, job, Run, service, MayCome, IsRun}
 use Rattle.run.specs.Promise.{task, NotCut, Takes}
 use Rattle.run.proofs.Picks.{pick-pos, pick-below}

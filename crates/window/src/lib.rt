@@ -111,6 +111,19 @@ impl Worst {
         }
         self
     }
+
+    // The same backwards: a window at an earlier phase is kept where it passes the bar.
+    fn take_back(self, bar: u64, window: u64, phase: u64) -> Worst
+        ensures { λ r. ⌜ r ≡ cond (ltb bar window) (record { window = window; phase = phase }) self ⌝ }
+    {
+        if bar < window {
+            return Worst {
+                window: window,
+                phase: phase,
+            };
+        }
+        self
+    }
 }
 
 // Where later searches may start, once the window at x closed at t.
@@ -204,19 +217,6 @@ fn bar_of(best: Worst) -> u64
     best.window
 }
 
-// The worst so far with a window at an earlier phase that passes the bar.
-fn kept_of(best: Worst, bar: u64, t: u64, x: u64) -> Worst
-    ensures { λ r. ⌜ r ≡ cond (ltb bar t) (record { window = t; phase = x }) best ⌝ }
-{
-    if bar < t {
-        return Worst {
-            window: t,
-            phase: x,
-        };
-    }
-    best
-}
-
 // One phase, backwards: it brings nothing where it closes at the bar, or where the old tasks ask for too little before it to
 // reach as far behind the request as the last window; else its window is searched for from there.
 fn look<'a>(
@@ -248,7 +248,7 @@ fn look<'a>(
     }
     match search(old, n, new, k, c, x, s.reach - gone, limit) {
         Closing::At(t) => {
-            let b = kept_of(best, bar, t, x);
+            let b = best.take_back(bar, t, x);
             Turn::On(Back {
                 best: b,
                 phase: x,

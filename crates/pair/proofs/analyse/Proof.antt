@@ -1,10 +1,10 @@
+use borrow.Author.Needs.{needs}
+use native.Mathlib.Omega.{arith}
+use mathlib.Core.Path.{_≡_, refl, sym, _∙_}
 use Rattle.block.specs.declared.Verdict.the-variants.{Passed}
 use Rattle.block.specs.Block.{blockVerdict}
 use Rattle.block.proofs.Reading.{block-length, block-count}
-use Rattle.pair.proofs.Exits.{parts, verdict-spoilt, verdict-holds, verdict-none, block-holds, block-held, pair-none, analyse-old, analyse-new, analyse-pair}
-use mathlib.Core.Path.{_≡_, refl, sym, _∙_}
-use native.Mathlib.Omega.{arith}
-use borrow.Author.Needs.{needs}
+use Rattle.pair.proofs.Exits.{parts, verdict-spoilt, verdict-holds, table-holds, table-keeps, analyse-old, analyse-new, analyse-pair}
 use Rattle.pair.proofs.analyse.Statement.{statement}
 use Rattle.pair.proofs.analyse.Tie as tie
 
@@ -26,32 +26,29 @@ returns-2 c =
 shared-slice-read-count : tie.Need-shared-slice-read-count
 shared-slice-read-count c = omega (arith, block-length _ _ (old-passed (c .before .before .before .before)))
 
+table-of-requires : tie.Need-table-of-requires
+table-of-requires c κs =
+    let p = old-passed (c .before .before .before .before .before) in
+    (block-length _ _ p, omega (arith, c .count .ensures, block-count _ _ p))
+
 shared-slice-read-count-2 : tie.Need-shared-slice-read-count-2
-shared-slice-read-count-2 c = omega (arith, block-length _ _ (new-passed (c .before .before .before)))
+shared-slice-read-count-2 c = omega (arith, block-length _ _ (new-passed (c .before .before .before .before)))
 
-add-if1 : tie.Need-add-if1
-add-if1 c =
-    omega (arith, c .count2 .ensures, c .before .before .count .ensures, block-count _ _ (old-passed (c .before .before .before .before .before .before .before)), block-count _ _ (new-passed (c .before .before .before .before)))
-
-returns-3 : tie.Need-returns-3
-returns-3 c =
-    let z = c .before .if1 .taken in
-    parts _ _
-    (analyse-pair _ _ _ _ _ _ _
-    (verdict-none 0 _ (old-passed (c .before .before .before .before .before .before .before .before .before)) (omega (arith, c .before .before .before .before .count .ensures)))
-    (verdict-none 1 _ (new-passed (c .before .before .before .before .before .before)) (omega (arith, c .before .before .count2 .ensures)))
-    ∙ pair-none _) (c .plain .ensures) refl
+table-of-requires-2 : tie.Need-table-of-requires-2
+table-of-requires-2 c κs =
+    let p = new-passed (c .before .before .before .before .before) in
+    (block-length _ _ p, omega (arith, c .count2 .ensures, block-count _ _ p))
 
 settle-requires : tie.Need-settle-requires
 settle-requires c κs =
-    (block-held 0 _ (old-passed (c .before .before .before .before .before .before .before .before .before)) _ (c .before .before .before .before .count .ensures), block-held 1 _ (new-passed (c .before .before .before .before .before .before)) _ (c .before .before .count2 .ensures))
+    (table-keeps 0 _ (old-passed (c .before .before .before .before .before .before .before .before .before .before)) _ (c .before .before .before .before .before .count .ensures) _ (c .before .before .before .before .table-of .ensures), table-keeps 1 _ (new-passed (c .before .before .before .before .before .before .before)) _ (c .before .before .count2 .ensures) _ (c .before .table-of2 .ensures))
 
-returns-4 : tie.Need-returns-4
-returns-4 c =
+returns-3 : tie.Need-returns-3
+returns-3 c =
     parts _ _
     (analyse-pair _ _ _ _ _ _ _
-    (block-holds 0 _ (old-passed (c .before .before .before .before .before .before .before .before .before .before .before .before)) _ (c .before .before .before .before .before .before .before .count .ensures))
-    (block-holds 1 _ (new-passed (c .before .before .before .before .before .before .before .before .before)) _ (c .before .before .before .before .before .count2 .ensures))) (c .before .before .settle .ensures .0) (c .before .before .settle .ensures .1)
+    (table-holds 0 _ (old-passed (c .before .before .before .before .before .before .before .before .before .before .before .before .before)) _ (c .before .before .before .before .before .before .before .before .count .ensures) _ (c .before .before .before .before .before .before .before .table-of .ensures))
+    (table-holds 1 _ (new-passed (c .before .before .before .before .before .before .before .before .before .before)) _ (c .before .before .before .before .before .count2 .ensures) _ (c .before .before .before .before .table-of2 .ensures))) (c .before .before .settle .ensures .0) (c .before .before .settle .ensures .1)
 
 pub analyse-spec : {M : Type 1} → statement M
 analyse-spec =
@@ -67,11 +64,10 @@ analyse-spec =
     (λ c. search needs)
     shared-slice-read-count
     (λ c κs. search needs)
+    table-of-requires
     shared-slice-read-count-2
     (λ c κs. search needs)
-    add-if1
-    (λ c κs. search needs)
-    returns-3
+    table-of-requires-2
     settle-requires
     (λ c. search needs)
-    returns-4)
+    returns-3)

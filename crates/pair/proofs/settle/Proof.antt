@@ -1,41 +1,33 @@
 use borrow.Author.Needs.{needs}
 use native.Mathlib.Omega.{arith}
-use Prim.Native.Nat.{_+_, _*_, _≤_}
+use Prim.Native.Nat.{_+_, _≤_}
 use mathlib.Core.Path.{_≡_, refl, sym, _∙_}
 use lib.ListN.{length}
-use Rattle.block.specs.Block.{tasksIn}
-use Rattle.block.proofs.Reading.{tasks-length}
-use Rattle.rows.specs.Rows.{rowSize}
+use Rattle.block.specs.Block.{listed}
+use Rattle.rows.proofs.Told.{listed-both}
 use Rattle.pair.proofs.Exits.{parts, pair-short, pair-late, pair-done}
 use Rattle.pair.proofs.settle.Statement.{statement}
 use Rattle.pair.proofs.settle.Tie as tie
 
--- the counts are those of the tasks
-sized : (c : tie.Start) → rowSize * (length (tasksIn (c .args .old .now) (c .args .n)) + length (tasksIn (c .args .new .now) (c .args .k))) ≡ rowSize * (c .args .n + c .args .k)
-sized c = rw (tasks-length (c .args .old .now) (c .args .n), tasks-length (c .args .new .now) (c .args .k))
+-- the counts are those of the tasks, and at most 60
+sized : (c : tie.Start) → length (listed (c .args .old)) + length (listed (c .args .new)) ≡ c .args .old .count + c .args .new .count
+sized c = listed-both (c .args .old) (c .args .new) (c .pre .0) (c .pre .1)
 
-small : (c : tie.Start) → c .args .n + c .args .k ≤ 60
-small c = omega (arith, c .pre .0 .few, c .pre .1 .few)
+few : (c : tie.Start) → c .args .old .count + c .args .new .count ≤ 60
+few c = omega (arith, c .pre .0 .few, c .pre .1 .few)
 
 add-if1 : tie.Need-add-if1
-add-if1 c = omega (arith, small (c .before .before .before))
+add-if1 c = omega (arith, few (c .before .before .before))
 
 mul-if1 : tie.Need-mul-if1
-mul-if1 c = omega (arith, small (c .before .before .before))
+mul-if1 c = omega (arith, few (c .before .before .before))
 
-returns-1 : tie.Need-returns
-returns-1 c =
+returns : tie.Need-returns
+returns c =
     parts _ _ (pair-short _ _ _ (omega (arith, sized (c .before .before .before .before .before), c .before .if1 .taken))) (c .plain .ensures) refl
 
 rows-of-requires : tie.Need-rows-of-requires
-rows-of-requires c κs =
-    (c .before .before .before .before .before .pre .0, c .before .before .before .before .before .pre .1, c .before .if1 .left)
-
-enum-known-a : tie.Need-enum-known-a
-enum-known-a c = search needs
-
-enum-told : tie.Need-enum-told
-enum-told c = search needs
+rows-of-requires c κs = (c .before .before .before .before .before .pre .0, c .before .before .before .before .before .pre .1, c .before .if1 .left)
 
 returns-2 : tie.Need-returns-2
 returns-2 c =
@@ -46,8 +38,8 @@ returns-2 c =
 returns-3 : tie.Need-returns-3
 returns-3 c =
     let e = c .before .enum-told .given .1 in
-    let r = c .before .before .before .before .before .rows-of .ensures in
-    parts _ _ (pair-done _ _ _ (omega (arith, sized (c .before .before .before .before .before .before .before .before .before .before .before), c .before .before .before .before .before .before .before .if1 .left)) (sym (r .0) ∙ e)) (c .plain2 .ensures) (rw e at (r .1))
+    let f = c .before .before .before .before .before .rows-of .ensures in
+    parts _ _ (pair-done _ _ _ (omega (arith, sized (c .before .before .before .before .before .before .before .before .before .before .before), c .before .before .before .before .before .before .before .if1 .left)) (sym (f .0) ∙ e)) (c .plain2 .ensures) (rw e at (f .1))
 
 pub settle-spec : {M : Type 1} → statement M
 settle-spec =
@@ -56,10 +48,10 @@ settle-spec =
     add-if1
     mul-if1
     (λ c κs. search needs)
-    returns-1
+    returns
     rows-of-requires
-    enum-known-a
-    enum-told
+    (λ c. search needs)
+    (λ c. search needs)
     (λ c κs. search needs)
     (λ c. search needs)
     returns-2

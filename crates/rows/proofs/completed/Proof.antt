@@ -3,7 +3,7 @@ use native.Mathlib.Omega.{arith}
 use mathlib.Core.Path.{_∙_, ap}
 use lib.ListN.{length}
 use Rattle.above.proofs.Above.{terms-ready, terms-length}
-use Rattle.rows.proofs.Bridge.{completed-is}
+use Rattle.row.proofs.Bridge.{completed-is}
 use Rattle.rows.proofs.completed.Statement.{statement}
 use Rattle.rows.proofs.completed.Tie as tie
 

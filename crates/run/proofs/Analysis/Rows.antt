@@ -16,9 +16,9 @@ use Rattle.window.specs.declared.Swept.the-variants.{Over, LateAt}
 use Rattle.window.specs.Order.{Kind, completed, aborted, new, kindOf}
 use Rattle.window.specs.Demand.{steadyDemand, phaseDemand, requestDemand}
 use Rattle.window.specs.Worst.{sweep}
-use Rattle.rows.specs.declared.Row.{Row}
-use Rattle.rows.specs.declared.Judged.the-variants.{Timely, Late}
-use Rattle.rows.specs.Row.{orZero, steadyWindow, phaseWindow, requestWindow, completedRow, abortedRow, newRow, rowBy, rowOf}
+use Rattle.row.specs.declared.Row.{Row}
+use Rattle.row.specs.declared.Judged.the-variants.{Timely, Late}
+use Rattle.row.specs.Row.{orZero, steadyWindow, phaseWindow, requestWindow, completedRow, abortedRow, newRow, rowBy, rowOf}
 use Rattle.run.specs.Promise.{count, task}
 use Rattle.run.proofs.Tasks.{Sound, sound}
 use Rattle.run.proofs.Analysis.Demands.{demandOld, demandNew, demandPhase, demandRequest, steady-old, steady-new, at-phase, from-request}

@@ -10,10 +10,10 @@ use Rattle.block.specs.declared.Task.{Task}
 use Rattle.block.specs.declared.Verdict.{Verdict}
 use Rattle.block.specs.declared.Verdict.the-variants.{Passed}
 use Rattle.block.specs.Answers.{firstOf}
-use Rattle.rows.specs.declared.Row.{Row}
-use Rattle.rows.specs.declared.Judged.{Judged}
-use Rattle.rows.specs.declared.Judged.the-variants.{Timely, Late}
-use Rattle.rows.specs.Row.{rowOf}
+use Rattle.row.specs.declared.Row.{Row}
+use Rattle.row.specs.declared.Judged.{Judged}
+use Rattle.row.specs.declared.Judged.the-variants.{Timely, Late}
+use Rattle.row.specs.Row.{rowOf}
 use Rattle.rows.specs.Rows.{rowNumbers, rowsOf, lateCheck, lateChecks}
 use Rattle.pair.specs.Accepted.{Accepted}
 use Rattle.run.specs.Promise.{count, task, firstPlace, firstNumber}

@@ -69,7 +69,7 @@ returns-4 c =
     let fam = flat-family (a .old .now) (a .n) (a .new .now) (a .k) (a .c) (q .0 .2) in
     let d = c .before .before .before .before .before .before .before .before .before .demand2 .ensures in
     let e = closing-at _ _ (sym (c .before .before .before .before .search .ensures) ∙ c .before .before .t .given .1) in
-    rw (c .kept-of .ensures) (seen-found f (a .c) (a .limit) fam (a .x) (a .s) (q .0 .5) (q .1) _ d (omega (arith, c .before .before .before .before .before .before .before .less .ensures, c .before .before .before .before .before .before .if3 .left, q .1 .past)) _ (c .before .before .before .before .before .before .before .before .before .before .before .before .before .bar-of .ensures) (omega (arith, q .1 .past, q .1 .far, q .1 .by, q .1 .fits)) _ e)
+    rw (c .take-back .ensures) (seen-found f (a .c) (a .limit) fam (a .x) (a .s) (q .0 .5) (q .1) _ d (omega (arith, c .before .before .before .before .before .before .before .less .ensures, c .before .before .before .before .before .before .if3 .left, q .1 .past)) _ (c .before .before .before .before .before .before .before .before .before .before .before .before .before .bar-of .ensures) (omega (arith, q .1 .past, q .1 .far, q .1 .by, q .1 .fits)) _ e)
 
 returns-5 : tie.Need-returns-5
 unfolding Turned

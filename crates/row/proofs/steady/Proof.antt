@@ -1,9 +1,9 @@
 use native.Mathlib.Omega.{arith}
-use Rattle.rows.specs.Flat.{flatSteady}
+use Rattle.row.specs.Flat.{flatSteady}
 use Rattle.term.proofs.Terms.{ready-less}
-use Rattle.rows.proofs.Windows.{flat-climbs}
-use Rattle.rows.proofs.steady.Statement.{statement}
-use Rattle.rows.proofs.steady.Tie as tie
+use Rattle.row.proofs.Windows.{flat-climbs}
+use Rattle.row.proofs.steady.Statement.{statement}
+use Rattle.row.proofs.steady.Tie as tie
 
 search-requires : tie.Need-search-requires
 search-requires c κs =

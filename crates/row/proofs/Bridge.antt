@@ -21,8 +21,8 @@ use Rattle.window.specs.Phases.{windowAt}
 use Rattle.window.proofs.Steady.{later-is-steady}
 use Rattle.above.specs.Roll.{one, markOf, sixOf, Rolled, isAbove, countAbove, termsAbove, entryOf, leftAbove}
 use Rattle.above.proofs.Above.{terms-sum}
-use Rattle.rows.specs.Flat.{flatSteady, flatRequest, Tells}
-use Rattle.rows.specs.Row.{steadyWindow, requestWindow, completedRow, abortedRow, newRow, rowBy, rowOf}
+use Rattle.row.specs.Flat.{flatSteady, flatRequest, Tells}
+use Rattle.row.specs.Row.{steadyWindow, requestWindow, completedRow, abortedRow, newRow, rowBy, rowOf}
 
 -- ---- one task
 

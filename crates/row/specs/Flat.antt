@@ -10,8 +10,8 @@ use Rattle.block.specs.Checks.{noTask}
 use Rattle.block.specs.Legal.{Legal}
 use Rattle.term.specs.Terms.{flatDemand}
 use Rattle.above.specs.Roll.{sixOf}
-use Rattle.rows.specs.declared.Judged.{Judged}
-use Rattle.rows.specs.Row.{rowOf}
+use Rattle.row.specs.declared.Judged.{Judged}
+use Rattle.row.specs.Row.{rowOf}
 
 -- steady: the old terms alone, at a phase that comes no sooner than the limit
 unfoldable pub flatSteady : List ℕ → ℕ → ℕ → ℕ → Option ℕ

@@ -9,9 +9,9 @@ use Rattle.window.specs.declared.Swept.the-variants.{Over, LateAt}
 use Rattle.window.specs.Order.{Kind, completed, aborted, new, kindOf}
 use Rattle.window.specs.Demand.{steadyDemand, phaseDemand, requestDemand}
 use Rattle.window.specs.Worst.{sweep}
-use Rattle.rows.specs.declared.Row.{Row}
-use Rattle.rows.specs.declared.Judged.{Judged}
-use Rattle.rows.specs.declared.Judged.the-variants.{Timely, Late}
+use Rattle.row.specs.declared.Row.{Row}
+use Rattle.row.specs.declared.Judged.{Judged}
+use Rattle.row.specs.declared.Judged.the-variants.{Timely, Late}
 
 abbrev pub row : ℕ → ℕ → ℕ → Row
 row a b c = record { first = a; second = b; third = c }

@@ -8,9 +8,9 @@ use Rattle.window.specs.declared.Course.{Course}
 use Rattle.window.specs.Worst.{sweep}
 use Rattle.window.specs.Phases.{closingOf, courseOf}
 use Rattle.window.proofs.Phases.{closing-at, closing-late}
-use Rattle.rows.proofs.Windows.{alone-row, last-steady, steady-within, worst-within, late-within}
-use Rattle.rows.proofs.completed_row.Statement.{statement}
-use Rattle.rows.proofs.completed_row.Tie as tie
+use Rattle.row.proofs.Windows.{alone-row, last-steady, steady-within, worst-within, late-within}
+use Rattle.row.proofs.completed_row.Statement.{statement}
+use Rattle.row.proofs.completed_row.Tie as tie
 
 module _ (r : Course) (g : ℕ → Option ℕ) (d : ℕ) (e : r ≡ courseOf g d) where
   swept-is : sweep g d ≡ r .swept

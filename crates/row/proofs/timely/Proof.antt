@@ -1,6 +1,6 @@
 use borrow.Author.Needs.{needs}
-use Rattle.rows.proofs.timely.Statement.{statement}
-use Rattle.rows.proofs.timely.Tie as tie
+use Rattle.row.proofs.timely.Statement.{statement}
+use Rattle.row.proofs.timely.Tie as tie
 
 returns : tie.Need-returns
 returns c =

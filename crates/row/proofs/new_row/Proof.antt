@@ -2,9 +2,9 @@ use borrow.Author.Needs.{needs}
 use native.Mathlib.Omega.{arith}
 use mathlib.Core.Path.{sym, _∙_}
 use Rattle.window.proofs.Phases.{closing-at, closing-late}
-use Rattle.rows.proofs.Windows.{steady-within, request-within}
-use Rattle.rows.proofs.new_row.Statement.{statement}
-use Rattle.rows.proofs.new_row.Tie as tie
+use Rattle.row.proofs.Windows.{steady-within, request-within}
+use Rattle.row.proofs.new_row.Statement.{statement}
+use Rattle.row.proofs.new_row.Tie as tie
 
 timely-requires : tie.Need-timely-requires
 timely-requires c κs =

@@ -1,11 +1,11 @@
 use native.Mathlib.Omega.{arith}
 use mathlib.Core.Path.{sym, ap}
 use Rattle.window.specs.Phases.{closingOf}
-use Rattle.rows.specs.Flat.{flatRequest}
+use Rattle.row.specs.Flat.{flatRequest}
 use Rattle.term.proofs.Terms.{ready-less}
-use Rattle.rows.proofs.Windows.{flat-climbs, request-over}
-use Rattle.rows.proofs.request.Statement.{statement}
-use Rattle.rows.proofs.request.Tie as tie
+use Rattle.row.proofs.Windows.{flat-climbs, request-over}
+use Rattle.row.proofs.request.Statement.{statement}
+use Rattle.row.proofs.request.Tie as tie
 
 returns : tie.Need-returns
 unfolding closingOf

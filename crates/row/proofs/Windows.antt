@@ -15,9 +15,9 @@ use Rattle.window.specs.declared.Swept.the-variants.{Over, LateAt}
 use Rattle.window.specs.Worst.{takeOf, nextOf, sweep}
 use Rattle.window.specs.Phases.{windowAt}
 use Rattle.window.proofs.Sweep.{IsWorst, IsLate, sweep-is}
-use Rattle.rows.specs.declared.Judged.the-variants.{Timely}
-use Rattle.rows.specs.Row.{row, completedRow}
-use Rattle.rows.specs.Flat.{flatSteady, flatRequest}
+use Rattle.row.specs.declared.Judged.the-variants.{Timely}
+use Rattle.row.specs.Row.{row, completedRow}
+use Rattle.row.specs.Flat.{flatSteady, flatRequest}
 use Rattle.base.specs.Sums.{sum}
 use Rattle.base.proofs.Sums.{sum-zero}
 use Rattle.window.proofs.Steady.{jobs-none}
