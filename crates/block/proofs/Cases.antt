@@ -6,10 +6,10 @@ use lib.ListN.{replicate}
 use Rattle.base.specs.Lists.{part, every, any, upTo}
 use Rattle.block.specs.Format.{blockSize, checkPlace, checkWords}
 use Rattle.block.specs.Answers.{answer, done, firstOf, answerOf}
-use Rattle.block.specs.Record.{wordBytes, taskOf, recordOf, taskFrom, numbersOf}
+use Rattle.block.specs.Record.{taskBy, wordBytes, taskOf, recordOf, taskFrom, numbersOf}
 use Rattle.block.specs.Checks.{kindOn, taskChecks, alike}
 use Rattle.block.specs.Block.{modeNumber, wordSum, checkOf, headed, headChecks, blockChecks, blockVerdict, listHead, listVerdict, headOf, bodyOf, holds, spoilt, filled, tableOf, loaded}
-use Rattle.block.specs.Cases.{taskBy, shownTask, shownBytes, shownNumbers, codeFound, codeExpected, ofRoom, second, cases}
+use Rattle.block.specs.Cases.{shownTask, shownBytes, shownNumbers, codeFound, codeExpected, ofRoom, second, cases}
 
 -- every verdict of the table has its code
 pub cases-hold : map codeFound cases ≡ map codeExpected cases

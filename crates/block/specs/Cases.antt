@@ -5,14 +5,12 @@ use mathlib.Core.List.{List, [], _∷_, _++_}
 use lib.ListN.{take, replicate}
 use Rattle.block.specs.declared.Task.{Task}
 use Rattle.block.specs.declared.Verdict.{Verdict}
+use Rattle.block.specs.Record.{taskBy}
 use Rattle.block.specs.Answers.{refusal, refuse, firstOf, answerOf}
 use Rattle.block.specs.Checks.{taskChecks, recordChecks, numberChecks, doubleCheck}
 use Rattle.block.specs.Block.{marked, headed, roomCheck, bodyChecks, blockVerdict, listHead, listVerdict}
 
--- ---- a task by kind, priority, number, T, D, C, Y; its sixteen bytes; its seven numbers
-
-abbrev pub taskBy : ℕ → ℕ → ℕ → ℕ → ℕ → ℕ → ℕ → Task
-taskBy k p n T D C Y = record { kind = k; priority = p; number = n; period = T; deadline = D; execution = C; offset = Y }
+-- ---- a task; its sixteen bytes; its seven numbers
 
 abbrev pub shownTask : Task
 shownTask = taskBy 2 10 300 1000 900 263 600

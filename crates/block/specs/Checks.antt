@@ -8,7 +8,7 @@ use Rattle.base.specs.Lists.{part, any}
 use Rattle.block.specs.declared.Task.{Task}
 use Rattle.block.specs.declared.Verdict.{Verdict}
 use Rattle.block.specs.Format.{recordSize, zeroPlace}
-use Rattle.block.specs.Record.{taskOf, taskFrom, fits, allZero}
+use Rattle.block.specs.Record.{taskBy, taskOf, taskFrom, fits, allZero}
 use Rattle.block.specs.Answers.{refusal, refuse}
 
 -- an old block (side 0) has kinds 0 and 1, a new one kind 2
@@ -35,7 +35,7 @@ numberChecks side k l = refuse (not (fits l)) (refusal 5 side k) ∷ taskChecks 
 
 -- the task that no record says, for a place past the end of a list
 abbrev pub noTask : Task
-noTask = record { kind = 0; priority = 0; number = 0; period = 0; deadline = 0; execution = 0; offset = 0 }
+noTask = taskBy 0 0 0 0 0 0 0
 
 -- two tasks bear the same number or the same priority
 unfoldable pub alike : Task → Task → Bool

@@ -27,6 +27,10 @@ wordBytes n = halfBytes n ++ halfBytes (n / 65536)
 abbrev pub allZero : List ℕ → Bool
 allZero bytes = every (λ b. eqb b 0) bytes
 
+-- a task by kind, priority, number, T, D, C, Y
+abbrev pub taskBy : ℕ → ℕ → ℕ → ℕ → ℕ → ℕ → ℕ → Task
+taskBy k p n T D C Y = record { kind = k; priority = p; number = n; period = T; deadline = D; execution = C; offset = Y }
+
 -- the task that the sixteen bytes of a record say: kind, priority, number, T, D, C, Y
 unfoldable pub taskOf : List ℕ → Task
 taskOf r = record {

@@ -4,6 +4,7 @@ use mathlib.Core.List.{List, [], _∷_, _++_}
 use lib.ListN.{length, replicate}
 use Rattle.block.specs.declared.Task.{Task}
 use Rattle.block.specs.declared.Answer.{Answer}
+use Rattle.block.specs.Record.{taskBy}
 use Rattle.block.specs.Answers.{answer, done}
 use Rattle.block.specs.Block.{holds}
 use Rattle.pair.specs.Analysis.{Analysis, analysis, judged}
@@ -34,17 +35,14 @@ expected c = analysis (c .reply) (c .rows ++ replicate (c .room - length (c .row
 
 -- ---- tasks as number, T, D, C, priority, Y
 
-abbrev pub taskBy : ℕ → ℕ → ℕ → ℕ → ℕ → ℕ → ℕ → Task
-taskBy k n T D C p Y = record { kind = k; priority = p; number = n; period = T; deadline = D; execution = C; offset = Y }
-
 abbrev pub completedTask : ℕ → ℕ → ℕ → ℕ → ℕ → Task
-completedTask n T D C p = taskBy 0 n T D C p 0
+completedTask n T D C p = taskBy 0 p n T D C 0
 
 abbrev pub abortedTask : ℕ → ℕ → ℕ → ℕ → ℕ → Task
-abortedTask n T D C p = taskBy 1 n T D C p 0
+abortedTask n T D C p = taskBy 1 p n T D C 0
 
 abbrev pub newTask : ℕ → ℕ → ℕ → ℕ → ℕ → ℕ → Task
-newTask n T D C p Y = taskBy 2 n T D C p Y
+newTask n T D C p Y = taskBy 2 p n T D C Y
 
 -- case a, with the D of number 2 and of number 20 left open
 abbrev pub oldsA : ℕ → List Task
