@@ -18,9 +18,13 @@ jobs x t = jobsIn (x .period) (x .execution) t
 abbrev pub cut : Task → ℕ → ℕ
 cut x m = cutIn (x .period) (x .execution) m
 
+-- what i itself asks for in each of its windows: C
+abbrev pub ownTime : Task → ℕ
+ownTime i = i .execution
+
 -- steady, within i's own mode
 unfoldable pub steadyDemand : List Task → Task → ℕ → ℕ
-steadyDemand own i t = i .execution + sumAbove i (λ k. jobs k t) own
+steadyDemand own i t = ownTime i + sumAbove i (λ k. jobs k t) own
 
 -- what an old task adds in m ticks before the request
 abbrev pub oldTerm : Kind → Task → ℕ → ℕ
@@ -31,7 +35,7 @@ oldTerm new k m = 0
 -- a completed old task i at phase x, the request coming x ticks after the window starts
 unfoldable pub phaseDemand : List Task → List Task → Task → ℕ → ℕ → ℕ
 phaseDemand olds news i x t =
-    i .execution + sumAbove i (λ k. oldTerm (kindOf k) k (min t x)) olds + sumAbove i (λ k. jobs k (t - x - k .offset)) news
+    ownTime i + sumAbove i (λ k. oldTerm (kindOf k) k (min t x)) olds + sumAbove i (λ k. jobs k (t - x - k .offset)) news
 
 -- what an old task leaves at the request
 abbrev pub leftTerm : Kind → Task → ℕ
@@ -42,4 +46,4 @@ leftTerm new k = 0
 -- a new task i, from the request
 unfoldable pub requestDemand : List Task → List Task → Task → ℕ → ℕ
 requestDemand olds news i t =
-    i .execution + sumAbove i (λ k. leftTerm (kindOf k) k) olds + sumAbove i (λ k. jobs k (t - k .offset)) news
+    ownTime i + sumAbove i (λ k. leftTerm (kindOf k) k) olds + sumAbove i (λ k. jobs k (t - k .offset)) news
