@@ -11,7 +11,7 @@ use native.Mathlib.Nat.{add-zero, eq-or-lt-of-le}
 use native.Mathlib.Numerals.{add-one}
 use Rattle.base.specs.Sums.{sum}
 use Rattle.base.proofs.Sums.{sum-eq}
-use Rattle.base.proofs.Recip.{recipOf}
+use Rattle.base.specs.Numbers.{recipOf}
 use Rattle.block.specs.declared.Task.{Task}
 use Rattle.block.specs.Checks.{noTask}
 use Rattle.term.specs.Terms.{Good, Ready, shareOf}

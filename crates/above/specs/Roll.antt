@@ -6,7 +6,7 @@ use lib.ListN.{length, getD}
 use lib.Seq.{sets}
 use lib.Dec.{eqb, ltb}
 use Rattle.base.specs.Sums.{sum}
-use Rattle.base.proofs.Recip.{recipOf}
+use Rattle.base.specs.Numbers.{recipOf}
 use Rattle.block.specs.declared.Task.{Task}
 use Rattle.block.specs.Checks.{noTask}
 use Rattle.term.specs.Terms.{Good}

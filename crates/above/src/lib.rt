@@ -1,7 +1,7 @@
 // The tasks above a rank, as flat terms. The tasks of a side are rolled out once, each row gathers from the roll.
 ghost use mathlib.Core.Path.{_≡_};
 ghost use Prim.Native.Nat.{_+_, _*_, _≤_, _<_};
-ghost use Rattle.base.proofs.Recip.{recipOf};
+ghost use Rattle.base.specs.Numbers.{recipOf};
 ghost use mathlib.Core.Bool.{cond};
 ghost use lib.ListN.{length};
 ghost use lib.Dec.{eqb, ltb};

@@ -8,7 +8,7 @@ use native.Mathlib.Omega.{arith}
 use native.Mathlib.Nat.{eq-or-lt-of-le, lt-of-not-le, eq-zero-or-pos, le-refl, not-suc-le-zero}
 use native.Mathlib.Decide.{decLe, decLt}
 use lib.Dec.{leb}
-use Rattle.base.specs.Search.{firstWhere, closes, windowOf}
+use Rattle.base.specs.Search.{firstWhere, closes, windowOf, Climbs}
 use borrow.Author.Tests.{le-leb, lt-leb, leb-true, leb-false}
 
 pub where-at : (p : ℕ → Bool) (k n s : ℕ) → s ≤ k → k < s + n → ((u : ℕ) → s ≤ u → u < k → p u ≡ false) → p k ≡ true → firstWhere p n s ≡ some k
@@ -33,12 +33,6 @@ le-or-lt a b = elim (decLe a b) [ yes h ↦ inl h | no n ↦ inr (lt-of-not-le n
 
 rise : (f : ℕ → ℕ) (t : ℕ) → Rises f → ((u : ℕ) → u < t → u < f u) → (u : ℕ) → u < f t → u < f u
 rise f t r b u h = ⊎-elim (λ g. omega (arith, r t u g)) (λ g. b u g) (le-or-lt t u)
-
-pub record Climbs (f : ℕ → ℕ) (limit t : ℕ) : Type 0 where
-  pub first : 1 ≤ t
-  pub within : t ≤ limit
-  pub up : t ≤ f t
-  pub unmet : (u : ℕ) → u < t → u < f u
 
 module _ (f : ℕ → ℕ) (limit : ℕ) where
   pub climb-start : (c : ℕ) → 1 ≤ c → c ≤ limit → ((u : ℕ) → c ≤ f u) → Climbs f limit c

@@ -5,8 +5,8 @@ use mathlib.Core.List.{List}
 use mathlib.Core.Option.{some, none}
 use native.Mathlib.Omega.{arith}
 use borrow.Author.Tests.{lt-leb, lt-ltb, le-ltb}
-use Rattle.base.specs.Search.{closes, windowOf}
-use Rattle.base.proofs.Search.{Climbs, climb-start, climb-at, where-none, window-found, window-same}
+use Rattle.base.specs.Search.{closes, windowOf, Climbs}
+use Rattle.base.proofs.Search.{climb-start, climb-at, where-none, window-found, window-same}
 use Rattle.term.specs.Terms.{shareOf, after, newSum, flatDemand}
 use lib.ListN.{getD}
 use Rattle.term.proofs.Terms.{flat-least}

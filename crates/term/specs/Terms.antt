@@ -6,8 +6,7 @@ use mathlib.Core.List.{List}
 use lib.ListN.{length, getD}
 use lib.Dec.{eqb, ltb}
 use Rattle.base.specs.Sums.{sum}
-use Rattle.base.specs.Numbers.{jobsIn, cutIn}
-use Rattle.base.proofs.Recip.{recipOf}
+use Rattle.base.specs.Numbers.{jobsIn, cutIn, recipOf}
 
 -- a term whose period may be divided by
 pub record Good (recip T C : ℕ) : Type 0 where

@@ -1,8 +1,7 @@
 // Demands over flat terms, and the next phase at which the old terms grow. Divides by reciprocals, knows no task.
 ghost use mathlib.Core.Path.{_≡_};
 ghost use Prim.Native.Nat.{_+_, _*_, _/_, _<_, _≤_, _-_, min, max};
-ghost use Rattle.base.specs.Numbers.{jobsIn, cutIn};
-ghost use Rattle.base.proofs.Recip.{recipOf};
+ghost use Rattle.base.specs.Numbers.{jobsIn, cutIn, recipOf};
 ghost use Rattle.term.specs.Terms.{Good, Ready, before, oldSum, newSum, flatDemand, growsBy, nextOf, nextPhase, prevOf, prevPhase};
 
 pub fn least(a: u64, b: u64) -> u64

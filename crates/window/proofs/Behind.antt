@@ -8,7 +8,8 @@ use lib.Dec.{ltb}
 use borrow.Author.Tests.{le-ltb, lt-ltb}
 use native.Mathlib.Omega.{arith}
 use native.Mathlib.Nat.{add-zero, add-suc, le-trans}
-use Rattle.base.proofs.Search.{Climbs, Window, window-found, window-by, climb-from, climb-at, le-or-lt}
+use Rattle.base.specs.Search.{Climbs}
+use Rattle.base.proofs.Search.{Window, window-found, window-by, climb-from, climb-at, le-or-lt}
 use Rattle.window.specs.declared.Worst.{Worst}
 use Rattle.window.specs.declared.Swept.the-variants.{Over}
 use Rattle.window.specs.declared.Back.{Back}

@@ -7,7 +7,8 @@ use mathlib.Core.Logic.{_⊎_, inl, inr, ⊎-elim}
 use borrow.Author.Tests.{le-ltb, lt-ltb}
 use native.Mathlib.Omega.{arith}
 use native.Mathlib.Nat.{add-zero, add-suc, le-trans}
-use Rattle.base.proofs.Search.{Rises, Climbs, Window, window-found, window-by, climb-from, le-or-lt}
+use Rattle.base.specs.Search.{Climbs}
+use Rattle.base.proofs.Search.{Rises, Window, window-found, window-by, climb-from, le-or-lt}
 use Rattle.term.specs.Terms.{flatDemand}
 use Rattle.term.proofs.Terms.{flat-rises, flat-same, flat-least, flat-shift}
 use Rattle.window.specs.declared.Closing.the-variants.{At, Late}

@@ -1,8 +1,7 @@
 // The search for the least closing t, and the worst window over all phases.
 ghost use mathlib.Core.Path.{_≡_};
 ghost use Prim.Native.Nat.{_+_, _<_, _≤_, _-_, min, max};
-ghost use Rattle.base.specs.Search.{windowOf};
-ghost use Rattle.base.proofs.Search.{Climbs};
+ghost use Rattle.base.specs.Search.{windowOf, Climbs};
 ghost use Rattle.term.specs.Terms.{Ready, flatDemand};
 ghost use Rattle.window.specs.Worst.{takeOf, sweep};
 ghost use Rattle.window.specs.Phases.{closingOf, windowAt, courseOf, Begun, Kept, Stepped};

@@ -1,6 +1,6 @@
 use borrow.Author.Needs.{needs}
 use native.Mathlib.Omega.{arith}
-use Rattle.base.proofs.Recip.{recipOf}
+use Rattle.base.specs.Numbers.{recipOf}
 use Prim.Native.Nat.{suc, _+_}
 use mathlib.Core.Path.{_≡_, ap, _∙_}
 use lib.ListN.{length-set}

@@ -4,7 +4,7 @@ use native.Mathlib.Omega.{arith}
 use native.Mathlib.Nat.{div-add-mod', mod-lt, mul-assoc, mul-add-div-right}
 use Prim.Native.Nat.{ℕ, _+_, _*_, _-_, _/_, _≤_, _<_}
 use mathlib.Core.Path.{_≡_, sym}
-use Rattle.base.proofs.Recip.{recipOf}
+use Rattle.base.specs.Numbers.{recipOf}
 use Rattle.above.proofs.recip.Statement.{statement}
 use Rattle.above.proofs.recip.Tie as tie
 

@@ -1,7 +1,8 @@
 use native.Mathlib.Omega.{arith}
 use mathlib.Core.Path.{_≡_}
 use native.Mathlib.Nat.{mul-le-mul}
-use Rattle.base.proofs.Recip.{recipOf, recip-fits, recip-div}
+use Rattle.base.specs.Numbers.{recipOf}
+use Rattle.base.proofs.Recip.{recip-fits, recip-div}
 use Rattle.term.proofs.whole.Statement.{statement}
 use Rattle.term.proofs.whole.Tie as tie
 

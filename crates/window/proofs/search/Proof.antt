@@ -2,7 +2,8 @@ use borrow.Author.Needs.{needs}
 use native.Mathlib.Omega.{arith}
 use Prim.Native.Nat.{_-_}
 use mathlib.Core.Path.{sym, ap}
-use Rattle.base.proofs.Search.{Climbs, climb-next, climb-at, climb-late}
+use Rattle.base.specs.Search.{Climbs}
+use Rattle.base.proofs.Search.{climb-next, climb-at, climb-late}
 use Rattle.term.specs.Terms.{flatDemand}
 use Rattle.term.proofs.Terms.{flat-rises}
 use Rattle.window.specs.Phases.{closingOf}
