@@ -8,6 +8,7 @@ use lib.Dec.{eqb, ltb}
 use Rattle.base.specs.Sums.{sum}
 use Rattle.base.specs.Numbers.{recipOf}
 use Rattle.block.specs.declared.Task.{Task}
+use Rattle.block.specs.Format.{mostTasks}
 use Rattle.block.specs.Checks.{noTask}
 use Rattle.term.specs.Terms.{Good}
 use Rattle.window.specs.Order.{rank}
@@ -17,6 +18,13 @@ one b = cond b 1 0
 
 abbrev pub markOf : Task → ℕ
 markOf x = one (eqb (x .kind) 1)
+
+-- room for the roll of any table, and for the terms of any table
+abbrev pub rollRoom : ℕ
+rollRoom = 6 * mostTasks
+
+abbrev pub termRoom : ℕ
+termRoom = 4 * mostTasks
 
 -- n tasks that can be rolled
 pub record Periodic (xs : List Task) (n : ℕ) : Type 0 where

@@ -6,6 +6,8 @@ ghost use mathlib.Core.Bool.{cond};
 ghost use lib.ListN.{length};
 ghost use lib.Dec.{eqb, ltb};
 ghost use Rattle.window.specs.Order.{rank};
+ghost use Rattle.window.specs.Demand.{ownTime};
+ghost use Rattle.block.specs.Format.{mostTasks};
 ghost use Rattle.above.specs.Roll.{one, Periodic, Rolled, entered, rollOf, countAbove, placed, termsAbove, leftAbove};
 use block::Table;
 use block::Task;
@@ -24,6 +26,13 @@ pub fn rank_of(x: Task) -> u64
         return 2 * p;
     }
     2 * p + 1
+}
+
+// What x itself asks for in each of its windows.
+pub fn own_time(x: Task) -> u64
+    ensures { λ r. ⌜ (r ≡ ownTime x) × (r < 65536) ⌝ }
+{
+    base::wider(x.execution)
 }
 
 fn mark_of(kind: u8) -> u64
@@ -63,9 +72,15 @@ fn enter(nums: &mut [u64], at: usize, x: Task)
     nums[at + 5] = rank_of(x);
 }
 
+// Room for the roll of any table: six numbers a task.
+pub const ROLL_ROOM: usize = 180;
+
+// Room for the terms of any table: four numbers a task.
+pub const TERM_ROOM: usize = 120;
+
 // The roll of a table.
 pub fn roll(nums: &mut [u64], table: Table)
-    requires { ⌜ (length (table .tasks) ≡ 30) × Periodic (table .tasks) (table .count) × (6 * table .count ≤ length (now nums)) ⌝ }
+    requires { ⌜ (length (table .tasks) ≡ mostTasks) × Periodic (table .tasks) (table .count) × (6 * table .count ≤ length (now nums)) ⌝ }
     ensures { λ _. ⌜ (now (nums .exit) ≡ rollOf (now (nums .entry)) (table .tasks) (table .count)) × Rolled (now (nums .exit)) (table .count) ⌝ }
 {
     let n = table.count;

@@ -15,7 +15,7 @@ use Rattle.block.specs.Legal.{Legal}
 use Rattle.term.specs.Terms.{before, after, oldSum, newSum, flatDemand}
 use Rattle.term.proofs.Terms.{flat-steady, flat-request}
 use Rattle.window.specs.Order.{new, kindAt, kindOf, rank, above}
-use Rattle.window.specs.Demand.{sumAbove, jobs, oldTerm, leftTerm, steadyDemand, phaseDemand, requestDemand}
+use Rattle.window.specs.Demand.{sumAbove, ownTime, jobs, oldTerm, leftTerm, steadyDemand, phaseDemand, requestDemand}
 use Rattle.window.specs.Worst.{sweep}
 use Rattle.window.specs.Phases.{windowAt}
 use Rattle.window.proofs.Steady.{later-is-steady}
@@ -25,6 +25,11 @@ use Rattle.row.specs.Flat.{flatSteady, flatRequest, Tells}
 use Rattle.row.specs.Row.{steadyWindow, requestWindow, completedRow, abortedRow, newRow, rowBy, rowOf}
 
 -- ---- one task
+
+pub kind-new : (q : ℕ) → 2 ≤ q → kindAt q ≡ new
+kind-new zero h = absurd (omega arith)
+kind-new (suc zero) h = absurd (omega arith)
+kind-new (suc (suc q)) h = refl
 
 old-is : (m : ℕ) (x : Task) (k : ℕ) → k < 2 → x .kind ≡ k → before m (x .period) (x .execution) (markOf x) ≡ oldTerm (kindAt k) x m
 unfolding before
@@ -72,13 +77,13 @@ module _ (r : List ℕ) (n : ℕ) (xs : List Task) (i : Task) (tells : Tells r n
 
     -- a fourth number that is zero for every task gives whole jobs
     pub whole-steady : (which : ℕ) → which < 6 → ((j : ℕ) → j < n → getD (sixOf (task j)) which 0 ≡ 0)
-        → flatSteady (termsAbove r (rank i) which l n) (countAbove r (rank i) n) (i .execution) (i .deadline) ≡ steadyWindow xs i
+        → flatSteady (termsAbove r (rank i) which l n) (countAbove r (rank i) n) (ownTime i) (i .deadline) ≡ steadyWindow xs i
     unfolding flatSteady steadyDemand
     whole-steady which w z =
-        window-same (flatDemand terms count terms 0 (i .execution) (i .deadline)) (steadyDemand xs i) (i .deadline)
+        window-same (flatDemand terms count terms 0 (ownTime i) (i .deadline)) (steadyDemand xs i) (i .deadline)
         (λ u h. omega (
           arith,
-          flat-steady terms count terms 0 (i .execution) (i .deadline) u h,
+          flat-steady terms count terms 0 (ownTime i) (i .deadline) u h,
           terms-sum r (rank i) which l n rolled room (before u),
           entries (before u) which (λ x. jobs x u) w (λ j m. whole-is u (task j) (getD (sixOf (task j)) which 0) (z j m)),
         ))
@@ -97,25 +102,25 @@ module _ (r : List ℕ) (n : ℕ) (xs : List Task) (i : Task) (tells : Tells r n
 
 -- ---- the windows and rows
 
-module _ (i : Task) (some : 1 ≤ i .execution) (o : List ℕ) (n : ℕ) (xs : List Task) (tells : Tells o n xs) (rolled : Rolled o n) (legal : Legal 0 xs) (l : List ℕ) where
+module _ (i : Task) (some : 1 ≤ ownTime i) (o : List ℕ) (n : ℕ) (xs : List Task) (tells : Tells o n xs) (rolled : Rolled o n) (legal : Legal 0 xs) (l : List ℕ) where
   abbrev old : List ℕ
   old = termsAbove o (rank i) 3 l n
 
   abbrev count : ℕ
   count = countAbove o (rank i) n
 
-  steady-old : 4 * n ≤ length l → flatSteady old count (i .execution) (i .deadline) ≡ steadyWindow xs i
+  steady-old : 4 * n ≤ length l → flatSteady old count (ownTime i) (i .deadline) ≡ steadyWindow xs i
   unfolding flatSteady phaseDemand sumAbove sumOf
   steady-old room =
-      window-same (flatDemand old count old 0 (i .execution) (i .deadline)) (phaseDemand xs [] i (i .deadline)) (i .deadline) same
+      window-same (flatDemand old count old 0 (ownTime i) (i .deadline)) (phaseDemand xs [] i (i .deadline)) (i .deadline) same
       ∙ later-is-steady xs [] i legal some (i .deadline) (i .deadline) (omega arith)
     where
-      same : (u : ℕ) → u ≤ i .deadline → flatDemand old count old 0 (i .execution) (i .deadline) u ≡ phaseDemand xs [] i (i .deadline) u
+      same : (u : ℕ) → u ≤ i .deadline → flatDemand old count old 0 (ownTime i) (i .deadline) u ≡ phaseDemand xs [] i (i .deadline) u
       same u h =
           let m : min u (i .deadline) ≡ u = omega arith in
-          rw m (omega (arith, flat-steady old count old 0 (i .execution) (i .deadline) u h, old-flat o n xs i tells l room rolled legal u))
+          rw m (omega (arith, flat-steady old count old 0 (ownTime i) (i .deadline) u h, old-flat o n xs i tells l room rolled legal u))
 
-  pub aborted-is : 4 * n ≤ length l → (ys : List Task) → i .kind ≡ 1 → abortedRow (flatSteady (termsAbove o (rank i) 4 l n) count (i .execution) (i .deadline)) ≡ rowOf xs ys i
+  pub aborted-is : 4 * n ≤ length l → (ys : List Task) → i .kind ≡ 1 → abortedRow (flatSteady (termsAbove o (rank i) 4 l n) count (ownTime i) (i .deadline)) ≡ rowOf xs ys i
   unfolding rowOf
   aborted-is room ys e =
       ap abortedRow (whole-steady o n xs i tells l room rolled 4 (omega arith) (λ j h. legal .rules j (omega (arith, tells .count)) .offset refl))
@@ -128,40 +133,35 @@ module _ (i : Task) (some : 1 ≤ i .execution) (o : List ℕ) (n : ℕ) (xs : L
     abbrev count′ : ℕ
     count′ = countAbove w (rank i) k
 
-    phase-flat : 4 * n ≤ length l → flatDemand old count later count′ (i .execution) ≡ phaseDemand xs ys i
+    phase-flat : 4 * n ≤ length l → flatDemand old count later count′ (ownTime i) ≡ phaseDemand xs ys i
     unfolding flatDemand phaseDemand
     phase-flat room = λ z. λ x t. eq x t z
       where
-        eq : (x t : ℕ) → i .execution + oldSum old count (min t x) + newSum later count′ (t - x) ≡ i .execution + sumAbove i (λ y. oldTerm (kindOf y) y (min t x)) xs + sumAbove i (λ y. jobs y (t - x - y .offset)) ys
+        eq : (x t : ℕ) → ownTime i + oldSum old count (min t x) + newSum later count′ (t - x) ≡ ownTime i + sumAbove i (λ y. oldTerm (kindOf y) y (min t x)) xs + sumAbove i (λ y. jobs y (t - x - y .offset)) ys
         eq x t = omega (arith, old-flat o n xs i tells l room rolled legal (min t x), new-flat w k ys i told l′ room′ well (t - x))
 
     pub completed-is : 4 * n ≤ length l → i .kind ≡ 0
-        → completedRow (sweep (windowAt (flatDemand old count later count′ (i .execution)) (i .deadline)) (i .deadline)) (flatSteady old count (i .execution) (i .deadline)) ≡ rowOf xs ys i
+        → completedRow (sweep (windowAt (flatDemand old count later count′ (ownTime i)) (i .deadline)) (i .deadline)) (flatSteady old count (ownTime i) (i .deadline)) ≡ rowOf xs ys i
     unfolding rowOf windowAt
     completed-is room e =
-        ap (λ (f : ℕ → ℕ → ℕ). completedRow (sweep (windowAt f (i .deadline)) (i .deadline)) (flatSteady old count (i .execution) (i .deadline))) (phase-flat room)
+        ap (λ (f : ℕ → ℕ → ℕ). completedRow (sweep (windowAt f (i .deadline)) (i .deadline)) (flatSteady old count (ownTime i) (i .deadline))) (phase-flat room)
         ∙ (ap (completedRow (sweep (windowAt (phaseDemand xs ys i) (i .deadline)) (i .deadline))) (steady-old room) ∙ sym (ap (λ (q : ℕ). rowBy (kindAt q) xs ys i) e))
 
     module _ (legal′ : Legal 1 ys) (e : 2 ≤ i .kind) (room : 4 * k ≤ length l) where
       abbrev own : List ℕ
       own = termsAbove w (rank i) 3 l k
 
-      steady-new : flatSteady own count′ (i .execution) (i .deadline) ≡ steadyWindow ys i
+      steady-new : flatSteady own count′ (ownTime i) (i .deadline) ≡ steadyWindow ys i
       steady-new =
           whole-steady w k ys i told l room well 3 (omega arith)
           (λ j h. ap (λ (q : ℕ). one (eqb q 1)) (legal′ .rules j (omega (arith, told .count)) .new refl))
 
-      request-new : flatRequest later count′ (i .execution + leftAbove o (rank i) n) (i .offset + i .deadline) ≡ requestWindow xs ys i
+      request-new : flatRequest later count′ (ownTime i + leftAbove o (rank i) n) (i .offset + i .deadline) ≡ requestWindow xs ys i
       unfolding flatRequest requestDemand
       request-new =
-          window-same (flatDemand later 0 later count′ (i .execution + leftAbove o (rank i) n) 0) (requestDemand xs ys i) (i .offset + i .deadline)
-          (λ u h. omega (arith, flat-request later 0 later count′ (i .execution + leftAbove o (rank i) n) u, new-flat w k ys i told l′ room′ well u, left-flat o n xs i tells legal))
+          window-same (flatDemand later 0 later count′ (ownTime i + leftAbove o (rank i) n) 0) (requestDemand xs ys i) (i .offset + i .deadline)
+          (λ u h. omega (arith, flat-request later 0 later count′ (ownTime i + leftAbove o (rank i) n) u, new-flat w k ys i told l′ room′ well u, left-flat o n xs i tells legal))
 
-      pub new-is : newRow i (flatSteady own count′ (i .execution) (i .deadline)) (flatRequest later count′ (i .execution + leftAbove o (rank i) n) (i .offset + i .deadline)) ≡ rowOf xs ys i
+      pub new-is : newRow i (flatSteady own count′ (ownTime i) (i .deadline)) (flatRequest later count′ (ownTime i + leftAbove o (rank i) n) (i .offset + i .deadline)) ≡ rowOf xs ys i
       unfolding rowOf
       new-is = rw (steady-new, request-new, kind-new (i .kind) e)
-        where
-          kind-new : (q : ℕ) → 2 ≤ q → kindAt q ≡ new
-          kind-new zero h = absurd (omega arith)
-          kind-new (suc zero) h = absurd (omega arith)
-          kind-new (suc (suc q)) h = refl

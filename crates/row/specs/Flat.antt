@@ -7,11 +7,8 @@ use lib.ListN.{length, getD}
 use Rattle.base.specs.Search.{windowOf}
 use Rattle.block.specs.declared.Task.{Task}
 use Rattle.block.specs.Checks.{noTask}
-use Rattle.block.specs.Legal.{Legal}
 use Rattle.term.specs.Terms.{flatDemand}
 use Rattle.above.specs.Roll.{sixOf}
-use Rattle.row.specs.declared.Judged.{Judged}
-use Rattle.row.specs.Row.{rowOf}
 
 -- steady: the old terms alone, at a phase that comes no sooner than the limit
 unfoldable pub flatSteady : List ℕ → ℕ → ℕ → ℕ → Option ℕ
@@ -25,7 +22,3 @@ flatRequest w k c limit = windowOf (flatDemand w 0 w k c 0) limit
 pub record Tells (l : List ℕ) (n : ℕ) (xs : List Task) : Type 0 where
   pub count : n ≡ length xs
   pub at : (j : ℕ) → j < n → (k : ℕ) → k < 6 → getD l (6 * j + k) 0 ≡ getD (sixOf (getD xs j noTask)) k 0
-
--- r is the row of i for any legal tables of which the rolls tell
-abbrev pub RowFrom : List ℕ → ℕ → List ℕ → ℕ → Task → Judged → Type 0
-RowFrom o n w k i r = (xs ys : List Task) → Tells o n xs → Tells w k ys → Legal 0 xs → Legal 1 ys → r ≡ rowOf xs ys i

@@ -2,6 +2,7 @@
 ghost use mathlib.Core.Path.{_≡_};
 ghost use Prim.Native.Nat.{_+_, _<_, _≤_};
 ghost use Rattle.term.specs.Terms.{Ready, flatDemand};
+ghost use Rattle.window.specs.Demand.{ownTime};
 ghost use Rattle.window.specs.Worst.{sweep};
 ghost use Rattle.window.specs.Phases.{closingOf, windowAt};
 ghost use Rattle.row.specs.Flat.{flatSteady, flatRequest};
@@ -105,10 +106,10 @@ pub fn aborted_row(old: &[u64], n: usize, c: u64, d: u64) -> Judged
 
 // The row of a new task. own: the new terms above it with no offset; new: with their offsets; left: what the old tasks leave at the request.
 pub fn new_row<'a>(own: &'a [u64], n: usize, new: &'a [u64], k: usize, left: u64, i: Task) -> Judged
-    requires { ⌜ Ready (now own) n × Ready (now new) k × (left ≤ 1966050) × (1 ≤ i .execution) × (i .execution ≤ i .deadline) ⌝ }
-    ensures { λ r. ⌜ r ≡ newRow i (flatSteady (now (own .entry)) n (i .execution) (i .deadline)) (flatRequest (now (new .entry)) k (i .execution + left) (i .offset + i .deadline)) ⌝ }
+    requires { ⌜ Ready (now own) n × Ready (now new) k × (left ≤ 1966050) × (1 ≤ ownTime i) × (ownTime i ≤ i .deadline) ⌝ }
+    ensures { λ r. ⌜ r ≡ newRow i (flatSteady (now (own .entry)) n (ownTime i) (i .deadline)) (flatRequest (now (new .entry)) k (ownTime i + left) (i .offset + i .deadline)) ⌝ }
 {
-    let c = base::wider(i.execution);
+    let c = above::own_time(i);
     let d = base::wider(i.deadline);
     let y = base::wider(i.offset);
     match steady(own, n, c, d) {

@@ -21,6 +21,7 @@ use Rattle.block.specs.declared.Verdict.the-variants.{Passed, Refused}
 use Rattle.block.specs.Answers.{firstOf}
 use Rattle.block.specs.Checks.{noTask}
 use Rattle.block.specs.Legal.{Legal}
+use Rattle.window.specs.Demand.{ownTime}
 use Rattle.row.specs.declared.Row.{Row}
 use Rattle.row.specs.declared.Judged.{Judged}
 use Rattle.row.specs.declared.Judged.the-variants.{Timely, Late}
@@ -52,13 +53,13 @@ module _ (xs ys : List Task) where
   task j = getD (xs ++ ys) j noTask
 
   -- each of them can be in time
-  pub times : Legal 0 xs → Legal 1 ys → (j : ℕ) → j < length xs + length ys → (1 ≤ task j .execution) × (task j .execution ≤ task j .deadline)
+  pub times : Legal 0 xs → Legal 1 ys → (j : ℕ) → j < length xs + length ys → (1 ≤ ownTime (task j)) × (ownTime (task j) ≤ task j .deadline)
   times p q j h = ⊎-elim second first (le-or-lt (length xs) j)
     where
-      first : j < length xs → (1 ≤ task j .execution) × (task j .execution ≤ task j .deadline)
+      first : j < length xs → (1 ≤ ownTime (task j)) × (ownTime (task j) ≤ task j .deadline)
       first l = rw (in-first xs ys noTask j l) (p .rules j l .execution, p .rules j l .in-deadline)
 
-      second : length xs ≤ j → (1 ≤ task j .execution) × (task j .execution ≤ task j .deadline)
+      second : length xs ≤ j → (1 ≤ ownTime (task j)) × (ownTime (task j) ≤ task j .deadline)
       second l =
           let r = q .rules (j - length xs) (omega arith) in
           rw (in-second xs ys noTask j l) (r .execution, r .in-deadline)

@@ -11,13 +11,15 @@ use Rattle.block.specs.Checks.{noTask}
 use Rattle.block.specs.Block.{listed}
 use Rattle.block.specs.Legal.{Tabled}
 use Rattle.block.proofs.Tables.{listed-length, listed-at}
-use Rattle.above.specs.Roll.{Periodic, sixOf, rollOf, Rolled}
+use Rattle.window.specs.Order.{kindOf}
+use Rattle.above.specs.Roll.{Periodic, sixOf, rollOf, Rolled, rollRoom, termRoom}
 use Rattle.above.proofs.Above.{roll-at}
 use Rattle.row.specs.declared.Judged.{Judged}
 use Rattle.row.specs.Row.{rowOf}
-use Rattle.row.specs.Flat.{RowFrom}
+use Rattle.judge.specs.From.{Rowed}
+use Rattle.judge.proofs.From.{row-is}
 use Rattle.rows.specs.Fill.{Told}
-use Rattle.rows.proofs.Laid.{in-first, in-second}
+use Rattle.rows.proofs.Laid.{in-first, in-second, times}
 
 module _ (old new : Table) (p : Tabled 0 old) (q : Tabled 1 new) where
   pub old-at : (j : ℕ) → j < old .count → getD (old .tasks) j noTask ≡ getD (listed old ++ listed new) j noTask
@@ -36,11 +38,11 @@ pub within : (k m l : ℕ) → l ≡ k → m ≤ k → m ≤ l
 within k m l e h = omega arith
 
 module _ (side : ℕ) (t : Table) (h : Tabled side t) where
-  pub table-rolls : (m : ℕ) → m ≡ 180 → (length (t .tasks) ≡ mostTasks) × Periodic (t .tasks) (t .count) × (6 * t .count ≤ m)
+  pub table-rolls : (m : ℕ) → m ≡ rollRoom → (length (t .tasks) ≡ mostTasks) × Periodic (t .tasks) (t .count) × (6 * t .count ≤ m)
   table-rolls m e =
       (h .places, record { few = h .few; periods = λ j l. rw (sym (listed-at side t h j l)) (h .legal .rules j (omega (arith, listed-length side t h)) .period) }, omega (arith, h .few))
 
-  pub table-told : (l r : List ℕ) → length l ≡ 180 → r ≡ rollOf l (t .tasks) (t .count) → Rolled r (t .count) → Told side t r
+  pub table-told : (l r : List ℕ) → length l ≡ rollRoom → r ≡ rollOf l (t .tasks) (t .count) → Rolled r (t .count) → Told side t r
   table-told l r m e rolled =
       record {
         tabled = h;
@@ -56,6 +58,10 @@ module _ (old new : Table) (o w : List ℕ) (p : Told 0 old o) (q : Told 1 new w
   pub told-few : old .count + new .count ≤ 60
   told-few = omega (arith, p .tabled .few, q .tabled .few)
 
-  pub told-row : (j : ℕ) (i : Task) (r : Judged) → RowFrom o (old .count) w (new .count) i r → i ≡ getD (listed old ++ listed new) j noTask → r ≡ rowOf (listed old) (listed new) (getD (listed old ++ listed new) j noTask)
-  told-row j i r f e =
-      f (listed old) (listed new) (p .tells) (q .tells) (p .tabled .legal) (q .tabled .legal) ∙ ap (rowOf (listed old) (listed new)) e
+  pub told-row : (j : ℕ) → j < length (listed old) + length (listed new) → (i : Task) → i ≡ getD (listed old ++ listed new) j noTask
+      → (b a b′ a′ : List ℕ) (r : Judged) → termRoom ≤ length b → termRoom ≤ length a → Rowed (kindOf i) o (old .count) w (new .count) i b a b′ a′ r
+      → r ≡ rowOf (listed old) (listed new) (getD (listed old ++ listed new) j noTask)
+  told-row j h i e b a b′ a′ r room later f =
+      (rw (f .0, f .1) at (f .2))
+      ∙ row-is i (rw e (times (listed old) (listed new) (p .tabled .legal) (q .tabled .legal) j h .0)) o (old .count) (listed old) (p .tells) (p .rolled) (p .tabled .legal) w (new .count) (listed new) (q .tells) (q .rolled) (q .tabled .legal) b a (omega (arith, p .tabled .few)) (omega (arith, q .tabled .few)) (omega (arith, q .tabled .few))
+      ∙ ap (rowOf (listed old) (listed new)) e

@@ -1,11 +1,12 @@
 -- The rows of a pair in order, and which late task is named. Definitions only.
-use Prim.Native.Nat.{ℕ}
+use Prim.Native.Nat.{ℕ, _+_, _*_}
 use mathlib.Core.List.{List, [], _∷_, _++_, flatMap}
 use lib.ListN.{length, getD, drop}
 use Rattle.base.specs.Lists.{upTo}
 use Rattle.block.specs.declared.Task.{Task}
 use Rattle.block.specs.declared.Verdict.{Verdict}
 use Rattle.block.specs.declared.Verdict.the-variants.{Passed, Refused}
+use Rattle.block.specs.Format.{mostTasks}
 use Rattle.block.specs.Answers.{answer}
 use Rattle.block.specs.Checks.{noTask}
 use Rattle.row.specs.declared.Judged.{Judged}
@@ -15,6 +16,10 @@ use Rattle.row.specs.Row.{rowOf}
 -- three numbers a row
 abbrev pub rowSize : ℕ
 rowSize = 3
+
+-- room for the rows of any pair
+abbrev pub reportRoom : ℕ
+reportRoom = rowSize * (mostTasks + mostTasks)
 
 abbrev pub rowNumbers : Judged → List ℕ
 rowNumbers (Timely r) = r .first ∷ r .second ∷ r .third ∷ []

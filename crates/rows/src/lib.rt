@@ -1,21 +1,19 @@
 // The rows of a pair: the row of each task, or the first late one.
 ghost use mathlib.Core.Path.{_≡_};
-ghost use Prim.Native.Nat.{ℕ, _+_, _*_, _<_, _≤_};
-ghost use mathlib.Core.List.{List, _++_};
-ghost use lib.ListN.{length, getD};
+ghost use Prim.Native.Nat.{_+_, _*_, _<_, _≤_};
+ghost use lib.ListN.{length};
 ghost use lib.Seq.{sets};
 ghost use Rattle.block.specs.Answers.{firstOf};
 ghost use Rattle.block.specs.Block.{listed};
-ghost use Rattle.block.specs.Checks.{noTask};
 ghost use Rattle.block.specs.Legal.{Tabled};
-ghost use Rattle.above.specs.Roll.{Rolled};
+ghost use Rattle.above.specs.Roll.{termRoom};
 ghost use Rattle.row.specs.declared.Judged.the-variants.{Timely, Late};
-ghost use Rattle.row.specs.Flat.{RowFrom};
-ghost use Rattle.rows.specs.Rows.{rowSize, rowNumbers, rowsOf, lateChecks, reported};
+ghost use Rattle.rows.specs.Rows.{rowSize, reportRoom, rowNumbers, rowsOf, lateChecks, reported};
 ghost use Rattle.rows.specs.Fill.{Told, checkAt, Filled};
+use above::ROLL_ROOM;
+use above::TERM_ROOM;
 use block::Answer;
 use block::Table;
-use block::Task;
 use block::Verdict;
 use row::Judged;
 use row::Row;
@@ -23,86 +21,8 @@ use row::Row;
 // Three numbers a row.
 pub const ROW_SIZE: usize = 3;
 
-// The row of a completed task i, from the rolls of both tables; the buffers are for its terms.
-fn completed(
-    before: &mut [u64],
-    after: &mut [u64],
-    olds: &[u64],
-    n: usize,
-    news: &[u64],
-    k: usize,
-    i: Task,
-) -> Judged
-    requires { ⌜ Rolled (now olds) n × Rolled (now news) k × (4 * n ≤ length (now before)) × (4 * k ≤ length (now after)) ⌝ }
-    requires { ⌜ (1 ≤ i .execution) × (i .execution ≤ i .deadline) × (i .kind ≡ 0) ⌝ }
-    ensures { λ r. ⌜ (length (now (before .exit)) ≡ length (now (before .entry))) × (length (now (after .exit)) ≡ length (now (after .entry))) × RowFrom (now (olds .entry)) n (now (news .entry)) k i r ⌝ }
-{
-    let p = above::rank_of(i);
-    let a = above::gather(before, olds, n, p, 3);
-    let b = above::gather(after, news, k, p, 4);
-    row::completed_row(
-        before,
-        a,
-        after,
-        b,
-        base::wider(i.execution),
-        base::wider(i.deadline),
-    )
-}
-
-// The row of an aborted task i.
-fn aborted(before: &mut [u64], olds: &[u64], n: usize, i: Task) -> Judged
-    requires { ⌜ Rolled (now olds) n × (4 * n ≤ length (now before)) ⌝ }
-    requires { ⌜ (1 ≤ i .execution) × (i .execution ≤ i .deadline) × (i .kind ≡ 1) ⌝ }
-    ensures { λ r. ⌜ (length (now (before .exit)) ≡ length (now (before .entry))) × ((w : List ℕ) (k : ℕ) → RowFrom (now (olds .entry)) n w k i r) ⌝ }
-{
-    let a = above::gather(before, olds, n, above::rank_of(i), 4);
-    row::aborted_row(before, a, base::wider(i.execution), base::wider(i.deadline))
-}
-
-// The row of a new task i.
-fn entering(
-    before: &mut [u64],
-    after: &mut [u64],
-    olds: &[u64],
-    n: usize,
-    news: &[u64],
-    k: usize,
-    i: Task,
-) -> Judged
-    requires { ⌜ Rolled (now olds) n × Rolled (now news) k × (4 * k ≤ length (now before)) × (4 * k ≤ length (now after)) ⌝ }
-    requires { ⌜ (1 ≤ i .execution) × (i .execution ≤ i .deadline) × (2 ≤ i .kind) ⌝ }
-    ensures { λ r. ⌜ (length (now (before .exit)) ≡ length (now (before .entry))) × (length (now (after .exit)) ≡ length (now (after .entry))) × RowFrom (now (olds .entry)) n (now (news .entry)) k i r ⌝ }
-{
-    let p = above::rank_of(i);
-    let left = above::left(olds, n, p);
-    let a = above::gather(before, news, k, p, 3);
-    let b = above::gather(after, news, k, p, 4);
-    row::new_row(before, a, after, b, left, i)
-}
-
-// The row of i.
-fn row_of(
-    before: &mut [u64],
-    after: &mut [u64],
-    olds: &[u64],
-    n: usize,
-    news: &[u64],
-    k: usize,
-    i: Task,
-) -> Judged
-    requires { ⌜ Rolled (now olds) n × Rolled (now news) k × (4 * n ≤ length (now before)) × (4 * k ≤ length (now before)) × (4 * k ≤ length (now after)) ⌝ }
-    requires { ⌜ (1 ≤ i .execution) × (i .execution ≤ i .deadline) ⌝ }
-    ensures { λ r. ⌜ (length (now (before .exit)) ≡ length (now (before .entry))) × (length (now (after .exit)) ≡ length (now (after .entry))) × RowFrom (now (olds .entry)) n (now (news .entry)) k i r ⌝ }
-{
-    if i.kind == 0 {
-        return completed(before, after, olds, n, news, k, i);
-    }
-    if i.kind == 1 {
-        return aborted(before, olds, n, i);
-    }
-    entering(before, after, olds, n, news, k, i)
-}
+// Room for the rows of any pair.
+pub const REPORT_ROOM: usize = 180;
 
 fn place(j: usize) -> u32
     requires { ⌜ j < 4294967296 ⌝ }
@@ -153,7 +73,7 @@ fn fill(
     new: Table,
 ) -> Verdict
     requires { ⌜ Told 0 old (now olds) × Told 1 new (now news) ⌝ }
-    requires { ⌜ (120 ≤ length (now before)) × (120 ≤ length (now after)) × (180 ≤ length (now numbers)) ⌝ }
+    requires { ⌜ (termRoom ≤ length (now before)) × (termRoom ≤ length (now after)) × (reportRoom ≤ length (now numbers)) ⌝ }
     ensures { λ r. ⌜ (length (now (numbers .exit)) ≡ length (now (numbers .entry))) × Filled (listed old) (listed new) (now (numbers .exit)) r ⌝ }
 {
     let n = old.count;
@@ -166,7 +86,7 @@ fn fill(
         } else {
             new.tasks[j - n]
         };
-        match row_of(before, after, olds, n, news, k, i) {
+        match judge::row_of(before, after, olds, n, news, k, i) {
             Judged::Timely(r) => {
                 put_row(numbers, ROW_SIZE * j, r);
             }
@@ -184,11 +104,11 @@ pub fn rows_of(old: Table, new: Table, report: &mut [u32]) -> Verdict
     requires { ⌜ Tabled 0 old × Tabled 1 new × (rowSize * (old .count + new .count) ≤ length (now report)) ⌝ }
     ensures { λ r. ⌜ (r ≡ firstOf (lateChecks (listed old) (listed new))) × (now (report .exit) ≡ reported r (rowsOf (listed old) (listed new)) (now (report .entry))) ⌝ }
 {
-    let mut olds = [0u64; 180];
-    let mut news = [0u64; 180];
-    let mut before = [0u64; 120];
-    let mut after = [0u64; 120];
-    let mut numbers = [0u32; 180];
+    let mut olds = [0u64; ROLL_ROOM];
+    let mut news = [0u64; ROLL_ROOM];
+    let mut before = [0u64; TERM_ROOM];
+    let mut after = [0u64; TERM_ROOM];
+    let mut numbers = [0u32; REPORT_ROOM];
     above::roll(&mut olds, old);
     above::roll(&mut news, new);
     let verdict = fill(

@@ -18,7 +18,7 @@ use Rattle.block.specs.declared.Task.{Task}
 use Rattle.block.specs.Checks.{noTask}
 use Rattle.block.specs.Legal.{Legal}
 use Rattle.window.specs.Order.{Kind, completed, aborted, new, kindAt, kindOf, above}
-use Rattle.window.specs.Demand.{sumAbove, jobs, oldTerm, steadyDemand, phaseDemand}
+use Rattle.window.specs.Demand.{ownTime, sumAbove, jobs, oldTerm, steadyDemand, phaseDemand}
 
 -- ---- the same for an old task
 
@@ -115,7 +115,7 @@ unfolding jobsIn ceil
 jobs-none zero C = zero-mul C
 jobs-none (suc T) C = rw (ceil-zero (suc T) (omega arith)) (zero-mul C)
 
-module _ (olds news : List Task) (i : Task) (legal : Legal 0 olds) (some : 1 ≤ i .execution) where
+module _ (olds news : List Task) (i : Task) (legal : Legal 0 olds) (some : 1 ≤ ownTime i) where
   abbrev task : ℕ → Task
   task j = getD olds j noTask
 
@@ -125,11 +125,11 @@ module _ (olds news : List Task) (i : Task) (legal : Legal 0 olds) (some : 1 ≤
   abbrev before : ℕ → ℕ → ℕ
   before t j = cond (above i (task j)) (oldTerm (kindOf (task j)) (task j) t) 0
 
-  steady-is : (t : ℕ) → steadyDemand olds i t ≡ i .execution + sum (length olds) (whole t)
+  steady-is : (t : ℕ) → steadyDemand olds i t ≡ ownTime i + sum (length olds) (whole t)
   unfolding steadyDemand sumAbove
   steady-is t = omega (arith, list-places (λ k. cond (above i k) (jobs k t) 0) olds noTask)
 
-  phase-is : (x t : ℕ) → t ≤ x → phaseDemand olds news i x t ≡ i .execution + sum (length olds) (before t)
+  phase-is : (x t : ℕ) → t ≤ x → phaseDemand olds news i x t ≡ ownTime i + sum (length olds) (before t)
   unfolding phaseDemand sumAbove
   phase-is x t h =
       let m : min t x ≡ t = omega arith in
@@ -147,7 +147,7 @@ module _ (olds news : List Task) (i : Task) (legal : Legal 0 olds) (some : 1 ≤
     where
       there : (t : ℕ) → 1 ≤ t → t ≤ limit → phaseDemand olds news i x t ≤ t → Closed (steadyDemand olds i) t
       there t f l c =
-          let r = full (length olds) (i .execution) whole before some
+          let r = full (length olds) (ownTime i) whole before some
           (λ u j m. cond-le (above i (task j)) _ _ (old-rises (kindOf (task j)) (task j) u (suc u) (omega arith)))
           (λ u j m. cond-lt (above i (task j)) _ _ _ (old-grows (task j .kind) (task j) u (legal .rules j m .old refl) (legal .rules j m .period)))
           t f (omega (arith, phase-is x t (omega arith))) in

@@ -17,19 +17,19 @@ timely-requires c κs =
 
 returns : tie.Need-returns
 returns c =
-    let e = rw (c .before .before .before .before .before .before .before .before .before .before .before .before .before .wider .ensures .0, c .before .before .before .before .before .before .before .before .before .before .before .before .wider2 .ensures .0) at (closing-at _ _ (sym (c .before .before .before .before .before .before .before .before .before .before .steady .ensures) ∙ c .before .before .before .before .before .before .before .before .s .given .1)) in
-    let g = rw (c .before .before .before .before .before .before .before .before .before .before .before .before .before .wider .ensures .0, c .before .before .before .before .before .before .before .before .before .before .before .wider3 .ensures .0, c .before .before .before .before .before .before .before .before .before .before .before .before .wider2 .ensures .0) at (closing-at _ _ (sym (c .before .before .before .before .before .before .request .ensures) ∙ c .before .before .before .before .w .given .1)) in
-    rw (e, g, c .timely .ensures, c .before .larger .ensures, c .before .before .less .ensures, c .before .before .before .before .before .before .before .before .before .before .before .wider3 .ensures .0)
+    let e = rw (c .before .before .before .before .before .before .before .before .before .before .before .before .before .own-time .ensures .0, c .before .before .before .before .before .before .before .before .before .before .before .before .wider .ensures .0) at (closing-at _ _ (sym (c .before .before .before .before .before .before .before .before .before .before .steady .ensures) ∙ c .before .before .before .before .before .before .before .before .s .given .1)) in
+    let g = rw (c .before .before .before .before .before .before .before .before .before .before .before .before .before .own-time .ensures .0, c .before .before .before .before .before .before .before .before .before .before .before .wider2 .ensures .0, c .before .before .before .before .before .before .before .before .before .before .before .before .wider .ensures .0) at (closing-at _ _ (sym (c .before .before .before .before .before .before .request .ensures) ∙ c .before .before .before .before .w .given .1)) in
+    rw (e, g, c .timely .ensures, c .before .larger .ensures, c .before .before .less .ensures, c .before .before .before .before .before .before .before .before .before .before .before .wider2 .ensures .0)
 
 returns-2 : tie.Need-returns-2
 returns-2 c =
-    let e = rw (c .before .before .before .before .before .before .before .before .before .wider .ensures .0, c .before .before .before .before .before .before .before .before .wider2 .ensures .0) at (closing-at _ _ (sym (c .before .before .before .before .before .before .steady .ensures) ∙ c .before .before .before .before .s .given .1)) in
-    let g = rw (c .before .before .before .before .before .before .before .before .before .wider .ensures .0, c .before .before .before .before .before .before .before .wider3 .ensures .0, c .before .before .before .before .before .before .before .before .wider2 .ensures .0) at (closing-late _ (sym (c .before .before .request .ensures) ∙ c .enum-told .given .1)) in
+    let e = rw (c .before .before .before .before .before .before .before .before .before .own-time .ensures .0, c .before .before .before .before .before .before .before .before .wider .ensures .0) at (closing-at _ _ (sym (c .before .before .before .before .before .before .steady .ensures) ∙ c .before .before .before .before .s .given .1)) in
+    let g = rw (c .before .before .before .before .before .before .before .before .before .own-time .ensures .0, c .before .before .before .before .before .before .before .wider2 .ensures .0, c .before .before .before .before .before .before .before .before .wider .ensures .0) at (closing-late _ (sym (c .before .before .request .ensures) ∙ c .enum-told .given .1)) in
     rw (e, g)
 
 returns-3 : tie.Need-returns-3
 returns-3 c =
-    let e = rw (c .before .before .before .before .before .wider .ensures .0, c .before .before .before .before .wider2 .ensures .0) at (closing-late _ (sym (c .before .before .steady .ensures) ∙ c .enum-told2 .given .1)) in
+    let e = rw (c .before .before .before .before .before .own-time .ensures .0, c .before .before .before .before .wider .ensures .0) at (closing-late _ (sym (c .before .before .steady .ensures) ∙ c .enum-told2 .given .1)) in
     rw e
 
 pub new-row-spec : {M : Type 1} → statement M

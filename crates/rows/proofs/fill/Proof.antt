@@ -9,6 +9,8 @@ use lib.ListN.{length, getD, length-set}
 use Rattle.block.specs.Checks.{noTask}
 use Rattle.block.specs.Block.{listed}
 use Rattle.block.proofs.Tables.{listed-length}
+use Rattle.window.specs.Order.{kindOf}
+use Rattle.judge.proofs.From.{own-length, new-length}
 use Rattle.rows.specs.Fill.{Going}
 use Rattle.rows.proofs.Laid.{times, going-first, going-more, going-late, going-end}
 use Rattle.rows.proofs.Told.{old-at, new-at, listed-both, told-few, told-row}
@@ -74,7 +76,7 @@ returns c =
     let l = c .before .before .before .before .before .before .before .before .before .before .before .before .before .loop in
     let a = c .before .before .before .before .before .before .before .before .before .before .before .before .before .before .before .before .before .before .before .args in
     let q = c .before .before .before .before .before .before .before .before .before .before .before .before .before .before .before .before .before .before .before .pre .0 in
-    let r = told-row (a .t6) (a .t7) _ _ (q .0) (q .1) (l .j) _ _ (c .before .before .before .before .before .before .before .before .row-of .ensures .2) (is-task (c .before .before .before .before .before .before .before .before .before .before .before)) in
+    let r = told-row (a .t6) (a .t7) _ _ (q .0) (q .1) (l .j) (inside (c .before .before .before .before .before .before .before .before .before .before .before)) _ (is-task (c .before .before .before .before .before .before .before .before .before .before .before)) (l .before) (l .after) _ _ _ (omega (arith, l .inv .1, c .before .before .before .before .before .before .before .before .before .before .before .before .before .before .before .before .before .before .before .pre .1 .0)) (omega (arith, l .inv .2, c .before .before .before .before .before .before .before .before .before .before .before .before .before .before .before .before .before .before .before .pre .1 .1)) (c .before .before .before .before .before .before .before .before .row-of .ensures) in
     let f = going-late (listed (a .t6)) (listed (a .t7)) (l .j) (l .numbers) (l .inv .4) (inside (c .before .before .before .before .before .before .before .before .before .before .before)) _ (l .numbers) (sym (c .before .before .d .given .1) ∙ r) in
     (l .inv .3, rw (c .late .ensures) (rw (listed-length 0 (a .t6) (q .0 .tabled)) at f))
 
@@ -87,10 +89,11 @@ loop-again c =
     let a = c .before .before .before .before .before .before .before .before .before .before .before .before .before .before .before .before .before .before .before .before .before .before .args in
     let q = c .before .before .before .before .before .before .before .before .before .before .before .before .before .before .before .before .before .before .before .before .before .before .pre in
     let e = c .before .before .before .before .before .before .before .before .before .before .before .row-of .ensures in
+    let i = c .before .before .before .before .before .before .before .before .before .before .before .before .before .before .if1 .i in
     let p = c .before .before .put-row .ensures in
-    let r = told-row (a .t6) (a .t7) _ _ (q .0 .0) (q .0 .1) (l .j) _ _ (e .2) (is-task (c .before .before .before .before .before .before .before .before .before .before .before .before .before .before)) in
+    let r = told-row (a .t6) (a .t7) _ _ (q .0 .0) (q .0 .1) (l .j) (inside (c .before .before .before .before .before .before .before .before .before .before .before .before .before .before)) _ (is-task (c .before .before .before .before .before .before .before .before .before .before .before .before .before .before)) (l .before) (l .after) _ _ _ (omega (arith, l .inv .1, q .1 .0)) (omega (arith, l .inv .2, q .1 .1)) e in
     let g = going-more (listed (a .t6)) (listed (a .t7)) (l .j) (l .numbers) (l .inv .4) (inside (c .before .before .before .before .before .before .before .before .before .before .before .before .before .before)) _ (omega (arith, l .inv .3, q .1 .2, few (c .before .before .before .before .before .before .before .before .before .before .before .before .before .before .before .before .before .before .before .before .before .before))) (sym (c .before .before .before .before .before .r .given .1) ∙ r) in
-    (search needs, e .0 ∙ l .inv .1, e .1 ∙ l .inv .2, ap length p ∙ simp length-set (l .inv .3), rw p g)
+    (search needs, ap length (e .0) ∙ own-length (kindOf i) _ _ _ _ i (l .before) ∙ l .inv .1, ap length (e .1) ∙ new-length (kindOf i) _ _ i (l .after) ∙ l .inv .2, ap length p ∙ simp length-set (l .inv .3), rw p g)
 
 returns-2 : tie.Need-returns-2 Inv-loop μ-loop
 returns-2 c =

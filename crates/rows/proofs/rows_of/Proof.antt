@@ -7,7 +7,8 @@ use lib.ListN.{length, take}
 use Rattle.base.specs.Lists.{over}
 use Rattle.base.proofs.Lists.{over-front}
 use Rattle.block.specs.Block.{listed}
-use Rattle.rows.specs.Rows.{rowSize, rowsOf}
+use Rattle.above.specs.Roll.{termRoom}
+use Rattle.rows.specs.Rows.{rowSize, reportRoom, rowsOf}
 use Rattle.rows.proofs.Laid.{rows-length}
 use Rattle.rows.proofs.Told.{listed-both, within, table-rolls, table-told}
 use Rattle.rows.proofs.rows_of.Statement.{statement}
@@ -23,7 +24,7 @@ fill-requires : tie.Need-fill-requires
 fill-requires c κs =
     let r = c .before .before .before .before .before .before .before .before .before .roll .ensures in
     let s = c .before .before .before .before .before .before .roll2 .ensures in
-    ((table-told 0 (c .before .before .before .before .before .before .before .before .before .before .before .before .args .old) (c .before .before .before .before .before .before .before .before .before .before .before .before .pre .0) _ _ refl (r .0) (r .1), table-told 1 (c .before .before .before .before .before .before .before .before .before .before .before .before .args .new) (c .before .before .before .before .before .before .before .before .before .before .before .before .pre .1) _ _ refl (s .0) (s .1)), (within 120 _ _ refl (omega arith), within 120 _ _ refl (omega arith), within 180 _ _ refl (omega arith)))
+    ((table-told 0 (c .before .before .before .before .before .before .before .before .before .before .before .before .args .old) (c .before .before .before .before .before .before .before .before .before .before .before .before .pre .0) _ _ refl (r .0) (r .1), table-told 1 (c .before .before .before .before .before .before .before .before .before .before .before .before .args .new) (c .before .before .before .before .before .before .before .before .before .before .before .before .pre .1) _ _ refl (s .0) (s .1)), (within termRoom _ _ refl (omega arith), within termRoom _ _ refl (omega arith), within reportRoom _ _ refl (omega arith)))
 
 few : (c : tie.Start) → c .args .old .count + c .args .new .count ≤ 60
 few c = omega (arith, c .pre .0 .few, c .pre .1 .few)
@@ -35,7 +36,7 @@ mul-size : tie.Need-mul-size
 mul-size c = omega (arith, few (c .before .before .before .before .before .before .before .before .before .before .before .before .before .before .before .before .before .before .before .before))
 
 part-copy-numbers-end : tie.Need-part-copy-numbers-end
-part-copy-numbers-end c = within 180 _ _ (c .before .before .before .before .before .before .before .before .before .fill .ensures .0) (omega (arith, few (c .before .before .before .before .before .before .before .before .before .before .before .before .before .before .before .before .before .before .before .before .before .before)))
+part-copy-numbers-end c = within reportRoom _ _ (c .before .before .before .before .before .before .before .before .before .fill .ensures .0) (omega (arith, few (c .before .before .before .before .before .before .before .before .before .before .before .before .before .before .before .before .before .before .before .before .before .before)))
 
 returns : tie.Need-returns
 returns c =

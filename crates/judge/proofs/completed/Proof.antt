@@ -1,0 +1,34 @@
+use borrow.Author.Needs.{needs}
+use native.Mathlib.Omega.{arith}
+use Rattle.above.proofs.Above.{terms-ready}
+use Rattle.judge.proofs.completed.Statement.{statement}
+use Rattle.judge.proofs.completed.Tie as tie
+
+completed-row-requires : tie.Need-completed-row-requires
+completed-row-requires c κs =
+    let a = c .before .before .before .before .before .before .before .before .before .before .before .before .before .before .before .before .before .args in
+    let g = c .before .before .before .before .before .before .before .before .before .before .gather .ensures in
+    let h = c .before .before .before .before .before .before .gather2 .ensures in
+    let q = c .before .before .before .before .before .before .before .before .before .before .before .before .before .before .before .before .before .pre in
+    (rw (g .0, g .1) (terms-ready (a .olds .now) _ 3 (a .before .now) (a .n) (q .0 .0) (q .0 .2)), rw (h .0, h .1) (terms-ready (a .news .now) _ 4 (a .after .now) (a .k) (q .0 .1) (q .0 .3)), omega (arith, c .before .own-time .ensures), omega (arith, c .before .own-time .ensures, c .wider .ensures), omega (arith, c .wider .ensures))
+
+returns : tie.Need-returns
+returns c =
+    let g = c .before .before .before .before .before .before .before .before .before .before .before .gather .ensures in
+    let h = c .before .before .before .before .before .before .before .gather2 .ensures in
+    let p = c .before .before .before .before .before .before .before .before .before .before .before .before .before .rank-of .ensures in
+    (rw p at (g .0), rw p at (h .0), rw (c .before .before .own-time .ensures .0, c .before .wider .ensures .0, g .1, h .1, p) at (c .completed-row .ensures))
+
+pub completed-spec : {M : Type 1} → statement M
+completed-spec =
+    tie.close
+    (tie.spec
+    (λ c κs. search needs)
+    (λ c κs. search needs)
+    (λ c κs. search needs)
+    (λ c κs. search needs)
+    (λ c κs. search needs)
+    completed-row-requires
+    (λ c. search needs)
+    (λ c. search needs)
+    returns)
