@@ -85,11 +85,11 @@ AtOrAbove tk idle j s = ⊥
 AtOrAbove tk (job i r) j s = (rank (tk i) ≤ rank (tk j)) × (rank (tk j) ≤ rank (tk i) → r ≤ s)
 
 -- the highest pending job always runs, and nothing only where nothing is pending
-pub record Schedule (n : ℕ) (tk : ℕ → Task) (R : Run) : Type 0 where
+pub record Preemptive (n : ℕ) (tk : ℕ → Task) (R : Run) : Type 0 where
   pub pending : (t : ℕ) → MayServe n tk R t (R .serve t)
   pub highest : (t j s : ℕ) → j < n → Pending tk R j s t → AtOrAbove tk (R .serve t) j s
 
 -- ---- a run of the tasks: any releases and any schedule that keep the rules
 pub record IsRun (n : ℕ) (tk : ℕ → Task) (R : Run) : Type 0 where
   pub releases : Releases n tk R
-  pub schedule : Schedule n tk R
+  pub schedule : Preemptive n tk R

@@ -13,7 +13,7 @@ use Rattle.base.proofs.Sums.{sum-le, sum-eq, sum-zero, sum-split, sum-pos, sum-
 use Rattle.base.proofs.Search.{find-zero, last-zero}
 use Rattle.block.specs.declared.Task.{Task}
 use Rattle.window.specs.Order.{Kind, completed, aborted, new, kindOf, rank}
-use Rattle.run.specs.Run.{Slot, idle, job, Run, Job, service, Ended, Present, Pending, AtOrAbove, Schedule}
+use Rattle.run.specs.Run.{Slot, idle, job, Run, Job, service, Ended, Present, Pending, AtOrAbove, Preemptive}
 use Rattle.run.proofs.Picks.{pick, pick-zero, pick-below, pick-pos}
 use Rattle.run.proofs.Behaviour.Accounts.{isChosen, served, chosen, lost, left, leftOver, OnlyPending, service-suc, service-le, service-rises, stays, chosen-served, fill}
 
@@ -170,7 +170,7 @@ module _ (n : ℕ) (tk : ℕ → Task) (R : Run) (S : OnlyPending n tk R) where
 
 -- ---- where the highest pending job always runs, no job loses a tick to a task below its own
 
-module _ (n : ℕ) (tk : ℕ → Task) (R : Run) (S : Schedule n tk R) where
+module _ (n : ℕ) (tk : ℕ → Task) (R : Run) (S : Preemptive n tk R) where
   level-top : (σ : Slot) (i j s : ℕ) → AtOrAbove tk σ j s → inLevel tk i j ≡ true → isChosen (inLevel tk i) σ ≡ 1
   level-top idle i j s a h = absurd a
   level-top (job k r) i j s a h = rw (le-leb (rank (tk k)) (rank (tk i)) (omega (arith, leb-true (rank (tk j)) (rank (tk i)) h)))

@@ -11,7 +11,7 @@ use Rattle.base.proofs.Sums.{sum-eq, sum-cut, sum-late}
 use Rattle.block.specs.declared.Task.{Task}
 use Rattle.window.specs.Order.{Kind, completed, aborted, new, kindOf, rank}
 use Rattle.window.specs.Demand.{jobs}
-use Rattle.run.specs.Run.{Run, Job, service, Ended, MayCome, Releases, Schedule, IsRun}
+use Rattle.run.specs.Run.{Run, Job, service, Ended, MayCome, Releases, Preemptive, IsRun}
 use Rattle.run.specs.Promise.{NoAbortedAbove, Reached}
 use Rattle.run.proofs.Picks.{pick, pick-pos, pick-zero, pick-below}
 use Rattle.run.proofs.Tasks.{Sound}
@@ -86,7 +86,7 @@ module _ (n : ℕ) (tk : ℕ → Task) (G : Sound n tk) (i x : ℕ) (l : i < n) 
     comes = λ j r m h. worst-comes (kindOf (tk j)) (tk j) x r (pick-pos (inLevel tk i j) (worstOf (kindOf (tk j)) (tk j) x r) (omega arith) .1);
   }
 
-  worst-schedule : Schedule n tk R
+  worst-schedule : Preemptive n tk R
   unfolding worstRun
   worst-schedule = play-schedule n tk G x (worstNeed n tk i x)
 

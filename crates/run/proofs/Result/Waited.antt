@@ -8,7 +8,7 @@ use Rattle.base.specs.Sums.{sum}
 use Rattle.base.proofs.Sums.{sum-zero, sum-ge, sum-ticks}
 use Rattle.block.specs.declared.Task.{Task}
 use Rattle.window.specs.Order.{Kind, completed, aborted, new, kindOf, rank}
-use Rattle.run.specs.Run.{job, Run, Job, runs, service, Ended, Present, Pending, AtOrAbove, Schedule}
+use Rattle.run.specs.Run.{job, Run, Job, runs, service, Ended, Present, Pending, AtOrAbove, Preemptive}
 use Rattle.run.specs.Promise.{NoAbortedAbove}
 use Rattle.run.proofs.Tasks.{Sound}
 use Rattle.run.proofs.Analysis.Demands.{overAbove, above-le, level-above}
@@ -20,7 +20,7 @@ always completed q t h = tt
 always aborted q t h = absurd (h refl)
 always new q t h = tt
 
-module _ (n : ℕ) (tk : ℕ → Task) (R : Run) (G : Sound n tk) (S : Schedule n tk R) where
+module _ (n : ℕ) (tk : ℕ → Task) (R : Run) (G : Sound n tk) (S : Preemptive n tk R) where
   last-served : (i r t : ℕ) → Job R i r → Ended R i r t → (f : ℕ) × (f < t) × (R .serve f ≡ job i r) × Ended R i r (suc f)
   unfolding service sum
   last-served i r zero p e = absurd (omega arith)
