@@ -50,6 +50,10 @@ pub record Takes (R : Run) (i r t : ℕ) : Type 0 where
 
 -- ---- the promise, for n tasks and a number for each
 
+-- the first half: in every run each job that is not cut off ends within its task's number
+abbrev pub AllEnd : (n : ℕ) → (ℕ → Task) → (ℕ → ℕ) → Type 0
+AllEnd n tk number = (R : Run) → IsRun n tk R → (i r : ℕ) → i < n → Job R i r → NotCut (kindOf (tk i)) R i r → Ended R i r (r + number i)
+
 -- no aborted task is above task i
 abbrev pub NoAbortedAbove : (n : ℕ) → (ℕ → Task) → ℕ → Type 0
 NoAbortedAbove n tk i = (j : ℕ) → j < n → rank (tk j) < rank (tk i) → kindOf (tk j) ≡ aborted → ⊥
@@ -62,10 +66,9 @@ pub record Reached (n : ℕ) (tk : ℕ → Task) (i t : ℕ) : Type 0 where
   pub is-job : Job run i release
   pub takes : Takes run i release t
 
+-- both halves; the second: for a completed task with no aborted task above it the number is reached
 pub record Bounds (n : ℕ) (tk : ℕ → Task) (number : ℕ → ℕ) : Type 0 where
-  -- in every run each job that is not cut off ends within its task's number
-  pub within : (R : Run) → IsRun n tk R → (i r : ℕ) → i < n → Job R i r → NotCut (kindOf (tk i)) R i r → Ended R i r (r + number i)
-  -- and for a completed task with no aborted task above it the number is reached
+  pub within : AllEnd n tk number
   pub exact : (i : ℕ) → i < n → kindOf (tk i) ≡ completed → NoAbortedAbove n tk i → Reached n tk i (number i)
 
 -- whenever the analysis answers 0, the first numbers of the rows that its report then holds bound the runs of the tasks in the blocks

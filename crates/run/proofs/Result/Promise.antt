@@ -1,5 +1,5 @@
 -- THE PROMISE: the proof of both halves, for two blocks and the analysis' own answer and report.
-use Prim.Native.Nat.{ℕ, _+_, _<_}
+use Prim.Native.Nat.{ℕ, _<_}
 use mathlib.Core.Path.{_≡_}
 use mathlib.Core.List.{List, _++_}
 use native.Mathlib.Omega.{arith}
@@ -10,8 +10,7 @@ use Rattle.window.specs.Order.{completed, kindOf}
 use Rattle.pair.specs.Analysis.{analyseOf}
 use Rattle.pair.specs.Accepted.{Accepted}
 use Rattle.pair.proofs.Kept.{accepted}
-use Rattle.run.specs.Run.{Run, Job, Ended, IsRun}
-use Rattle.run.specs.Promise.{count, task, firstNumber, NotCut, NoAbortedAbove, Reached, Bounds, Promise}
+use Rattle.run.specs.Promise.{count, task, firstNumber, NoAbortedAbove, Reached, AllEnd, Bounds, Promise}
 use Rattle.run.proofs.Tasks.{Sound, sound}
 use Rattle.run.proofs.Behaviour.Levels.{no-loss}
 use Rattle.run.proofs.Analysis.Windows.{Windows}
@@ -36,7 +35,7 @@ module _ (oldBlock newBlock report : List ℕ) (a : Accepted oldBlock newBlock r
   windows : (i : ℕ) → i < n → Windows (kindOf (tk i)) n tk 0 i (number i)
   windows i l = let r = first-numbers oldBlock newBlock report (analyseOf oldBlock newBlock report .report) a i l in rw (r .2) (row-windows (a .olds) (a .news) old-legal new-legal i l (r .0) (r .1))
 
-  first-half : (R : Run) → IsRun n tk R → (i r : ℕ) → i < n → Job R i r → NotCut (kindOf (tk i)) R i r → Ended R i r (r + number i)
+  first-half : AllEnd n tk number
   first-half R is = within n tk G (λ i. 0) number windows R (is .releases) (is .schedule .pending) (no-loss n tk R (is .schedule))
 
   second-half : (i : ℕ) → i < n → kindOf (tk i) ≡ completed → NoAbortedAbove n tk i → Reached n tk i (number i)
