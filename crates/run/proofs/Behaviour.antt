@@ -2,4 +2,4 @@
 pub mod Accounts
 pub mod Levels
 pub mod Unique
-pub mod Played
+pub mod Built

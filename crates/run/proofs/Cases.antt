@@ -23,7 +23,7 @@ use Rattle.run.specs.Promise.{task, NotCut, Takes}
 use Rattle.run.proofs.Picks.{pick-pos, pick-below}
 use Rattle.run.proofs.Tasks.{Sound}
 use Rattle.run.proofs.Analysis.Counted.{every}
-use Rattle.run.proofs.Behaviour.Played.{earliest, best, hist, play, play-schedule}
+use Rattle.run.proofs.Behaviour.Built.{earliest, best, hist, built, built-schedule}
 use Rattle.run.proofs.Result.Exact.{worstNeed, worstRun}
 
 -- kind, number, T, D, C, priority, Y
@@ -50,21 +50,21 @@ unfolding rowOf sweep nextOf takeOf windowOf firstWhere steadyDemand phaseDemand
 a-row = refl
 
 a-ticks : ticks a-run 10 ≡ job 0 0 ∷ job 0 0 ∷ job 2 1 ∷ job 2 1 ∷ job 2 1 ∷ job 1 0 ∷ job 1 0 ∷ job 1 0 ∷ job 1 0 ∷ idle ∷ []
-unfolding upTo worstRun worstNeed play hist best earliest every rank
+unfolding upTo worstRun worstNeed built hist best earliest every rank
 a-ticks = refl
 
 -- it ends at 9 and not at 8
 a-ends : (service a-run 1 0 8 ≡ 3) × (service a-run 1 0 9 ≡ 4)
-unfolding service sum worstRun worstNeed play hist best earliest every rank
+unfolding service sum worstRun worstNeed built hist best earliest every rank
 a-ends = (refl, refl)
 
 -- so it takes neither 10 nor 8
 a-not-more : Takes a-run 1 0 10 → ⊥
-unfolding service sum worstRun worstNeed play hist best earliest every rank
+unfolding service sum worstRun worstNeed built hist best earliest every rank
 a-not-more k = omega (arith, k .not-sooner 9 (omega arith))
 
 a-not-less : Takes a-run 1 0 8 → ⊥
-unfolding service sum worstRun worstNeed play hist best earliest every rank
+unfolding service sum worstRun worstNeed built hist best earliest every rank
 a-not-less k = omega (arith, k .ends)
 
 -- ---- no old job comes at the request, and only aborted ones can be cut off
@@ -86,15 +86,15 @@ f-row = refl
 
 -- in the run of the proof aborted tasks release nothing: there the job ends at 4, and the promise claims no more of this task
 f-ends : (service (worstRun 2 (task f-old) 1 4) 1 0 3 ≡ 3) × (service (worstRun 2 (task f-old) 1 4) 1 0 4 ≡ 4)
-unfolding service sum worstRun worstNeed play hist best earliest every rank
+unfolding service sum worstRun worstNeed built hist best earliest every rank
 f-ends = (refl, refl)
 
 -- both tasks released at 0 with 4 ticks each, the request at q
 f-need : ℕ → ℕ → ℕ
 f-need i r = cond (eqb r 0) 4 0
 
-abbrev f-play : ℕ → Run
-f-play q = play 2 (task f-old) q f-need
+abbrev f-built : ℕ → Run
+f-built q = built 2 (task f-old) q f-need
 
 -- that is a run for any q from 1 on
 at-two : (P : ℕ → Type 0) → P 0 → P 1 → (i : ℕ) → i < 2 → P i
@@ -126,8 +126,8 @@ f-fits : (i r : ℕ) → f-need i r ≤ 4
 unfolding f-need
 f-fits i r = pick-below (eqb r 0) 4 4 (le-refl 4)
 
-f-run : (q : ℕ) → 0 < q → IsRun 2 (task f-old) (f-play q)
-unfolding play
+f-run : (q : ℕ) → 0 < q → IsRun 2 (task f-old) (f-built q)
+unfolding built
 f-run q p = record {
   releases = record {
     fits = λ i r. at-two (λ i. f-need i r ≤ task f-old i .execution) (f-fits 0 r) (f-fits 1 r) i;
@@ -137,17 +137,17 @@ f-run q p = record {
     ];
     comes = λ i r l h. at-two (λ i. r ≡ 0 → MayCome (kindOf (task f-old i)) q (task f-old i .offset) r) (λ z. omega arith) (λ z. omega arith) i l (f-once i r h);
   };
-  schedule = play-schedule 2 (task f-old) f-sound q f-need;
+  schedule = built-schedule 2 (task f-old) f-sound q f-need;
 }
 
 -- with the request at 4 the aborted job has just ended, and the other's 8 is reached
-f-reached : NotCut aborted (f-play 4) 0 0 × (service (f-play 4) 1 0 7 ≡ 3) × (service (f-play 4) 1 0 8 ≡ 4)
-unfolding service sum play hist best earliest rank f-need
+f-reached : NotCut aborted (f-built 4) 0 0 × (service (f-built 4) 1 0 7 ≡ 3) × (service (f-built 4) 1 0 8 ≡ 4)
+unfolding service sum built hist best earliest rank f-need
 f-reached = (refl, refl, refl)
 
 -- with the request at 1 it is cut off after a tick, and the other job ends at 5
-f-cut : ticks (f-play 1) 6 ≡ job 0 0 ∷ job 1 0 ∷ job 1 0 ∷ job 1 0 ∷ job 1 0 ∷ idle ∷ []
-unfolding upTo play hist best earliest rank f-need
+f-cut : ticks (f-built 1) 6 ≡ job 0 0 ∷ job 1 0 ∷ job 1 0 ∷ job 1 0 ∷ job 1 0 ∷ idle ∷ []
+unfolding upTo built hist best earliest rank f-need
 f-cut = refl
 
 -- ---- case g: two aborted tasks above, the row has 20 at phase 14; all released as often as they may, the job ends at 16
@@ -162,8 +162,8 @@ g-row = refl
 g-need : ℕ → ℕ → ℕ
 g-need i r = every (task g-old i .period) 4 r
 
-g-ends : (service (play 3 (task g-old) 14 g-need) 2 0 15 ≡ 3) × (service (play 3 (task g-old) 14 g-need) 2 0 16 ≡ 4)
-unfolding service sum play hist best earliest rank g-need every
+g-ends : (service (built 3 (task g-old) 14 g-need) 2 0 15 ≡ 3) × (service (built 3 (task g-old) 14 g-need) 2 0 16 ≡ 4)
+unfolding service sum built hist best earliest rank g-need every
 g-ends = (refl, refl)
 
 -- ---- case h: at equal priorities the old job, released at 0, goes on when the new one comes at 1
@@ -174,6 +174,6 @@ h-tasks = made 0 1 10 10 2 5 0 ∷ made 2 2 10 10 3 5 0 ∷ []
 h-need : ℕ → ℕ → ℕ
 h-need i r = cond (eqb i r) (i + 2) 0
 
-h-ticks : ticks (play 2 (task h-tasks) 1 h-need) 6 ≡ job 0 0 ∷ job 0 0 ∷ job 1 1 ∷ job 1 1 ∷ job 1 1 ∷ idle ∷ []
-unfolding upTo play hist best earliest rank h-need
+h-ticks : ticks (built 2 (task h-tasks) 1 h-need) 6 ≡ job 0 0 ∷ job 0 0 ∷ job 1 1 ∷ job 1 1 ∷ job 1 1 ∷ idle ∷ []
+unfolding upTo built hist best earliest rank h-need
 h-ticks = refl

@@ -19,7 +19,7 @@ use Rattle.run.proofs.Analysis.Counted.{every, every-le, every-apart, e
 use Rattle.run.proofs.Analysis.Demands.{atPhase, demandPhase, above-le}
 use Rattle.run.proofs.Behaviour.Accounts.{work, service-le}
 use Rattle.run.proofs.Behaviour.Levels.{inLevel}
-use Rattle.run.proofs.Behaviour.Played.{play, play-schedule}
+use Rattle.run.proofs.Behaviour.Built.{built, built-schedule}
 use Rattle.run.proofs.Result.Waited.{waited}
 
 -- ---- the worst releases
@@ -71,14 +71,14 @@ module _ (n : ℕ) (tk : ℕ → Task) (i x : ℕ) where
   worstNeed j r = pick (inLevel tk i j) (worstOf (kindOf (tk j)) (tk j) x r)
 
   unfoldable pub worstRun : Run
-  worstRun = play n tk x worstNeed
+  worstRun = built n tk x worstNeed
 
 module _ (n : ℕ) (tk : ℕ → Task) (G : Sound n tk) (i x : ℕ) (l : i < n) (px : 0 < x) where
   abbrev R : Run
   R = worstRun n tk i x
 
   worst-releases : Releases n tk R
-  unfolding worstRun play worstNeed
+  unfolding worstRun built worstNeed
   worst-releases = record {
     fits = λ j r m. omega (arith, pick-below (inLevel tk i j) (worstOf (kindOf (tk j)) (tk j) x r) (tk j .execution) (worst-fits (kindOf (tk j)) (tk j) x r));
     apart = λ j r d m h p v. pick-zero (inLevel tk i j) (worstOf (kindOf (tk j)) (tk j) x (r + d))
@@ -88,14 +88,14 @@ module _ (n : ℕ) (tk : ℕ → Task) (G : Sound n tk) (i x : ℕ) (l : i < n) 
 
   worst-schedule : Preemptive n tk R
   unfolding worstRun
-  worst-schedule = play-schedule n tk G x (worstNeed n tk i x)
+  worst-schedule = built-schedule n tk G x (worstNeed n tk i x)
 
   first-job : kindOf (tk i) ≡ completed → R .need i 0 ≡ tk i .execution
-  unfolding worstRun play worstNeed every
+  unfolding worstRun built worstNeed every
   first-job ki = rw (le-leb (rank (tk i)) (rank (tk i)) (le-refl (rank (tk i))), ki, lt-ltb 0 x px, zero-mod (tk i .period))
 
   above-work : (j f : ℕ) → j < n → rank (tk j) < rank (tk i) → (kindOf (tk j) ≡ aborted → ⊥) → work R j f ≡ atPhase (kindOf (tk j)) (tk j) x f
-  unfolding worstRun play worstNeed work
+  unfolding worstRun built worstNeed work
   above-work j f m h k =
       sum-eq f (λ r. worstNeed n tk i x j r) (worstOf (kindOf (tk j)) (tk j) x) (λ r v. rw (le-leb (rank (tk j)) (rank (tk i)) (omega arith)))
       ∙ worst-sum (kindOf (tk j)) (tk j) x f (G .period j m) k
