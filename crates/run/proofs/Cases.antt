@@ -23,7 +23,7 @@ use Rattle.run.specs.Promise.{task, NotCut, Takes}
 use Rattle.run.proofs.Picks.{pick-pos, pick-below}
 use Rattle.run.proofs.Tasks.{Sound}
 use Rattle.run.proofs.Analysis.Counted.{every}
-use Rattle.run.proofs.Behaviour.Built.{earliest, best, hist, built, built-schedule}
+use Rattle.run.proofs.Behaviour.Built.{earliest, best, hist, built, built-run}
 use Rattle.run.proofs.Result.Exact.{worstNeed, worstRun}
 
 -- kind, number, T, D, C, priority, Y
@@ -128,17 +128,14 @@ f-fits i r = pick-below (eqb r 0) 4 4 (le-refl 4)
 
 f-run : (q : ℕ) → 0 < q → IsRun 2 (task f-old) (f-built q)
 unfolding built
-f-run q p = record {
-  releases = record {
-    fits = λ i r. at-two (λ i. f-need i r ≤ task f-old i .execution) (f-fits 0 r) (f-fits 1 r) i;
-    apart = λ i r d l h e v. elim (eq-zero-or-pos (f-need i (r + d))) [
-      | inl z ↦ z
-      | inr z ↦ absurd (omega (arith, f-once i (r + d) z))
-    ];
-    comes = λ i r l h. at-two (λ i. r ≡ 0 → MayCome (kindOf (task f-old i)) q (task f-old i .offset) r) (λ z. omega arith) (λ z. omega arith) i l (f-once i r h);
-  };
-  schedule = built-schedule 2 (task f-old) f-sound q f-need;
-}
+f-run q p = built-run 2 (task f-old) f-sound q f-need (record {
+  fits = λ i r. at-two (λ i. f-need i r ≤ task f-old i .execution) (f-fits 0 r) (f-fits 1 r) i;
+  apart = λ i r d l h e v. elim (eq-zero-or-pos (f-need i (r + d))) [
+    | inl z ↦ z
+    | inr z ↦ absurd (omega (arith, f-once i (r + d) z))
+  ];
+  comes = λ i r l h. at-two (λ i. r ≡ 0 → MayCome (kindOf (task f-old i)) q (task f-old i .offset) r) (λ z. omega arith) (λ z. omega arith) i l (f-once i r h);
+})
 
 -- with the request at 4 the aborted job has just ended, and the other's 8 is reached
 f-reached : NotCut aborted (f-built 4) 0 0 × (service (f-built 4) 1 0 7 ≡ 3) × (service (f-built 4) 1 0 8 ≡ 4)

@@ -19,7 +19,7 @@ use Rattle.run.proofs.Analysis.Counted.{every, every-le, every-apart, e
 use Rattle.run.proofs.Analysis.Demands.{atPhase, demandPhase, above-le}
 use Rattle.run.proofs.Behaviour.Accounts.{work, service-le}
 use Rattle.run.proofs.Behaviour.Levels.{inLevel}
-use Rattle.run.proofs.Behaviour.Built.{built, built-schedule}
+use Rattle.run.proofs.Behaviour.Built.{built, built-schedule, built-run}
 use Rattle.run.proofs.Result.Waited.{waited}
 
 -- ---- the worst releases
@@ -117,7 +117,8 @@ module _ (n : ℕ) (tk : ℕ → Task) (G : Sound n tk) (i x : ℕ) (l : i < n) 
       )
 
   pub worst-run : IsRun n tk (worstRun n tk i x)
-  worst-run = record { releases = worst-releases; schedule = worst-schedule }
+  unfolding worstRun
+  worst-run = built-run n tk G x (worstNeed n tk i x) worst-releases
 
   pub worst-job : kindOf (tk i) ≡ completed → Job (worstRun n tk i x) i 0
   worst-job ki = omega (arith, first-job ki, G .execution i l)
