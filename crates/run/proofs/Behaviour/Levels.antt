@@ -62,7 +62,7 @@ present-early completed q t h = tt
 present-early aborted q t h = omega arith
 present-early new q t h = tt
 
-present-before : (k : Kind) (q t t′ : ℕ) → t′ ≤ t → Present k q t → Present k q t′
+pub present-before : (k : Kind) (q t t′ : ℕ) → t′ ≤ t → Present k q t → Present k q t′
 present-before completed q t t′ l h = tt
 present-before aborted q t t′ l h = omega arith
 present-before new q t t′ l h = tt
@@ -74,7 +74,7 @@ keep-pos new q t x h = (tt, h)
 
 module _ (n : ℕ) (tk : ℕ → Task) (R : Run) (S : OnlyPending n tk R) where
   -- what is pending after a tick, of what was released before or at it, was pending in it
-  was-pending : (i t : ℕ) → 0 < backlog tk R i (suc t) → (r : ℕ) × Pending tk R i r t
+  pub was-pending : (i t : ℕ) → 0 < backlog tk R i (suc t) → (r : ℕ) × Pending tk R i r t
   unfolding backlog leftOver
   was-pending i t h =
       let k = keep-pos (kindOf (tk i)) (R .request) (suc t) (leftOver R i (suc t)) h in
@@ -176,7 +176,7 @@ module _ (n : ℕ) (tk : ℕ → Task) (R : Run) (S : Preemptive n tk R) where
   level-top (job k r) i j s a h = rw (le-leb (rank (tk k)) (rank (tk i)) (omega (arith, leb-true (rank (tk j)) (rank (tk i)) h)))
 
   -- a tick after which something of the level is pending serves the level
-  busy : (i t : ℕ) → 0 < level n tk R (inLevel tk i) (suc t) → isChosen (inLevel tk i) (R .serve t) ≡ 1
+  pub busy : (i t : ℕ) → 0 < level n tk R (inLevel tk i) (suc t) → isChosen (inLevel tk i) (R .serve t) ≡ 1
   unfolding level
   busy i t h =
       let p = sum-pos n (λ j. pick (inLevel tk i j) (backlog tk R j (suc t))) h in
@@ -184,7 +184,7 @@ module _ (n : ℕ) (tk : ℕ → Task) (R : Run) (S : Preemptive n tk R) where
       let w = was-pending n tk R (S .pending) (p .0) t (c .1) in
       level-top (R .serve t) i (p .0) (w .0) (S .highest t (p .0) (w .0) (p .1) (w .1)) (c .0)
 
-  unfinished-level : (i r u : ℕ) → i < n → r < u → service R i r u < R .need i r → Present (kindOf (tk i)) (R .request) u → 0 < level n tk R (inLevel tk i) u
+  pub unfinished-level : (i r u : ℕ) → i < n → r < u → service R i r u < R .need i r → Present (kindOf (tk i)) (R .request) u → 0 < level n tk R (inLevel tk i) u
   unfolding level backlog leftOver
   unfinished-level i r u l h d k =
       let g = sum-ge n (λ j. pick (inLevel tk i j) (backlog tk R j u)) i l in
