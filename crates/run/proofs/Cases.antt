@@ -1,4 +1,4 @@
--- Small runs by computation: what the definitions give for cases a, f, g and h of the paper.
+-- Small runs by computation: what the definitions give for the tasks of cases a, f, g and h of the paper.
 use Prim.Native.Nat.{ℕ, zero, suc, _+_, _≤_, _<_}
 use mathlib.Core.Path.{_≡_, refl}
 use mathlib.Core.Logic.{inl, inr}
@@ -9,15 +9,10 @@ use native.Mathlib.Omega.{arith}
 use borrow.Author.Tests.{eqb-true}
 use lib.Dec.{eqb}
 use Rattle.base.specs.Lists.{upTo}
-use Rattle.base.specs.Sums.{sum, sumOf}
-use Rattle.base.specs.Numbers.{ceil, jobsIn, cutIn}
-use Rattle.base.specs.Search.{firstWhere, windowOf}
+use Rattle.base.specs.Sums.{sum}
 use Rattle.block.specs.declared.Task.{Task}
 use Rattle.window.specs.Order.{completed, aborted, new, kindOf, rank}
-use Rattle.window.specs.Demand.{sumAbove, steadyDemand, phaseDemand}
-use Rattle.window.specs.Worst.{takeOf, nextOf, sweep}
-use Rattle.row.specs.declared.Judged.the-variants.{Timely}
-use Rattle.row.specs.Row.{row, rowOf}
+use Rattle.pair.specs.Cases.{completedTask, newTask, oldsA, newsA, oldsF, oldsG}
 use Rattle.run.specs.Run.{Slot, idle, job, Run, service, MayCome, IsRun}
 use Rattle.run.specs.Promise.{task, NotCut, Takes}
 use Rattle.run.proofs.Picks.{pick-pos, pick-below}
@@ -26,28 +21,14 @@ use Rattle.run.proofs.Analysis.Counted.{every}
 use Rattle.run.proofs.Behaviour.Built.{earliest, best, hist, built, built-run}
 use Rattle.run.proofs.Result.Exact.{worstNeed, worstRun}
 
--- kind, number, T, D, C, priority, Y
-abbrev made : ℕ → ℕ → ℕ → ℕ → ℕ → ℕ → ℕ → Task
-made k number T D C p Y = record { kind = k; priority = p; number = number; period = T; deadline = D; execution = C; offset = Y }
-
 -- what the first ticks serve
 abbrev ticks : Run → ℕ → List Slot
 ticks R t = upTo (R .serve) t
 
--- ---- case a: number 2 stands at place 1, and its row has phase 1
-
-abbrev a-old : List Task
-a-old = made 0 1 10 10 2 1 0 ∷ made 0 2 20 20 4 3 0 ∷ []
-
-abbrev a-new : List Task
-a-new = made 2 10 10 8 3 2 0 ∷ made 2 20 20 20 5 4 4 ∷ []
+-- ---- case a: number 2 stands at place 1, and its row has 9 at phase 1
 
 abbrev a-run : Run
-a-run = worstRun 4 (task (a-old ++ a-new)) 1 1
-
-a-row : rowOf a-old a-new (task a-old 1) ≡ Timely (row 9 1 6)
-unfolding rowOf sweep nextOf takeOf windowOf firstWhere steadyDemand phaseDemand sumAbove sumOf jobsIn cutIn ceil rank
-a-row = refl
+a-run = worstRun 4 (task (oldsA 20 ++ newsA 20)) 1 1
 
 a-ticks : ticks a-run 10 ≡ job 0 0 ∷ job 0 0 ∷ job 2 1 ∷ job 2 1 ∷ job 2 1 ∷ job 1 0 ∷ job 1 0 ∷ job 1 0 ∷ job 1 0 ∷ idle ∷ []
 unfolding upTo worstRun worstNeed built hist best earliest every rank
@@ -75,17 +56,10 @@ none-at-request q y = (λ h. omega arith, λ h. omega arith)
 others-whole : (R : Run) (i r : ℕ) → NotCut completed R i r × NotCut new R i r
 others-whole R i r = (tt, tt)
 
--- ---- case f: the completed task stands at place 1 under an aborted one, and its row has phase 4
-
-abbrev f-old : List Task
-f-old = made 1 1 10 10 4 1 0 ∷ made 0 2 20 20 4 3 0 ∷ []
-
-f-row : rowOf f-old [] (task f-old 1) ≡ Timely (row 8 4 8)
-unfolding rowOf sweep nextOf takeOf windowOf firstWhere steadyDemand phaseDemand sumAbove sumOf jobsIn cutIn ceil rank
-f-row = refl
+-- ---- case f: the completed task stands at place 1 under an aborted one, and its row has 8 at phase 4
 
 -- in the run of the proof aborted tasks release nothing: there the job ends at 4, and the promise claims no more of this task
-f-ends : (service (worstRun 2 (task f-old) 1 4) 1 0 3 ≡ 3) × (service (worstRun 2 (task f-old) 1 4) 1 0 4 ≡ 4)
+f-ends : (service (worstRun 2 (task oldsF) 1 4) 1 0 3 ≡ 3) × (service (worstRun 2 (task oldsF) 1 4) 1 0 4 ≡ 4)
 unfolding service sum worstRun worstNeed built hist best earliest every rank
 f-ends = (refl, refl)
 
@@ -94,7 +68,7 @@ f-need : ℕ → ℕ → ℕ
 f-need i r = cond (eqb r 0) 4 0
 
 abbrev f-built : ℕ → Run
-f-built q = built 2 (task f-old) q f-need
+f-built q = built 2 (task oldsF) q f-need
 
 -- that is a run for any q from 1 on
 at-two : (P : ℕ → Type 0) → P 0 → P 1 → (i : ℕ) → i < 2 → P i
@@ -102,19 +76,19 @@ at-two P a b zero l = a
 at-two P a b (suc zero) l = b
 at-two P a b (suc (suc i)) l = absurd (omega arith)
 
-f-ranks : (i : ℕ) → i < 2 → (j : ℕ) → j < 2 → rank (task f-old i) ≡ rank (task f-old j) → i ≡ j
+f-ranks : (i : ℕ) → i < 2 → (j : ℕ) → j < 2 → rank (task oldsF i) ≡ rank (task oldsF j) → i ≡ j
 unfolding rank
 f-ranks =
-    at-two (λ i. (j : ℕ) → j < 2 → rank (task f-old i) ≡ rank (task f-old j) → i ≡ j)
-    (at-two (λ j. rank (task f-old 0) ≡ rank (task f-old j) → 0 ≡ j) (λ e. refl) (λ e. absurd (omega arith)))
-    (at-two (λ j. rank (task f-old 1) ≡ rank (task f-old j) → 1 ≡ j) (λ e. absurd (omega arith)) (λ e. refl))
+    at-two (λ i. (j : ℕ) → j < 2 → rank (task oldsF i) ≡ rank (task oldsF j) → i ≡ j)
+    (at-two (λ j. rank (task oldsF 0) ≡ rank (task oldsF j) → 0 ≡ j) (λ e. refl) (λ e. absurd (omega arith)))
+    (at-two (λ j. rank (task oldsF 1) ≡ rank (task oldsF j) → 1 ≡ j) (λ e. absurd (omega arith)) (λ e. refl))
 
-f-sound : Sound 2 (task f-old)
+f-sound : Sound 2 (task oldsF)
 f-sound = record {
-  period = at-two (λ i. 0 < task f-old i .period) (omega arith) (omega arith);
-  execution = at-two (λ i. 0 < task f-old i .execution) (omega arith) (omega arith);
-  in-deadline = at-two (λ i. task f-old i .execution ≤ task f-old i .deadline) (omega arith) (omega arith);
-  in-period = at-two (λ i. task f-old i .deadline ≤ task f-old i .period) (omega arith) (omega arith);
+  period = at-two (λ i. 0 < task oldsF i .period) (omega arith) (omega arith);
+  execution = at-two (λ i. 0 < task oldsF i .execution) (omega arith) (omega arith);
+  in-deadline = at-two (λ i. task oldsF i .execution ≤ task oldsF i .deadline) (omega arith) (omega arith);
+  in-period = at-two (λ i. task oldsF i .deadline ≤ task oldsF i .period) (omega arith) (omega arith);
   ranks = λ i j l h e. f-ranks i l j h e;
 }
 
@@ -126,15 +100,15 @@ f-fits : (i r : ℕ) → f-need i r ≤ 4
 unfolding f-need
 f-fits i r = pick-below (eqb r 0) 4 4 (le-refl 4)
 
-f-run : (q : ℕ) → 0 < q → IsRun 2 (task f-old) (f-built q)
+f-run : (q : ℕ) → 0 < q → IsRun 2 (task oldsF) (f-built q)
 unfolding built
-f-run q p = built-run 2 (task f-old) f-sound q f-need (record {
-  fits = λ i r. at-two (λ i. f-need i r ≤ task f-old i .execution) (f-fits 0 r) (f-fits 1 r) i;
+f-run q p = built-run 2 (task oldsF) f-sound q f-need (record {
+  fits = λ i r. at-two (λ i. f-need i r ≤ task oldsF i .execution) (f-fits 0 r) (f-fits 1 r) i;
   apart = λ i r d l h e v. elim (eq-zero-or-pos (f-need i (r + d))) [
     | inl z ↦ z
     | inr z ↦ absurd (omega (arith, f-once i (r + d) z))
   ];
-  comes = λ i r l h. at-two (λ i. r ≡ 0 → MayCome (kindOf (task f-old i)) q (task f-old i .offset) r) (λ z. omega arith) (λ z. omega arith) i l (f-once i r h);
+  comes = λ i r l h. at-two (λ i. r ≡ 0 → MayCome (kindOf (task oldsF i)) q (task oldsF i .offset) r) (λ z. omega arith) (λ z. omega arith) i l (f-once i r h);
 })
 
 -- with the request at 4 the aborted job has just ended, and the other's 8 is reached
@@ -149,24 +123,17 @@ f-cut = refl
 
 -- ---- case g: two aborted tasks above, the row has 20 at phase 14; all released as often as they may, the job ends at 16
 
-abbrev g-old : List Task
-g-old = made 1 1 10 10 4 1 0 ∷ made 1 2 10 10 4 2 0 ∷ made 0 3 20 20 4 3 0 ∷ []
-
-g-row : rowOf g-old [] (task g-old 2) ≡ Timely (row 20 14 20)
-unfolding rowOf sweep nextOf takeOf windowOf firstWhere steadyDemand phaseDemand sumAbove sumOf jobsIn cutIn ceil rank
-g-row = refl
-
 g-need : ℕ → ℕ → ℕ
-g-need i r = every (task g-old i .period) 4 r
+g-need i r = every (task oldsG i .period) 4 r
 
-g-ends : (service (built 3 (task g-old) 14 g-need) 2 0 15 ≡ 3) × (service (built 3 (task g-old) 14 g-need) 2 0 16 ≡ 4)
+g-ends : (service (built 3 (task oldsG) 14 g-need) 2 0 15 ≡ 3) × (service (built 3 (task oldsG) 14 g-need) 2 0 16 ≡ 4)
 unfolding service sum built hist best earliest rank g-need every
 g-ends = (refl, refl)
 
 -- ---- case h: at equal priorities the old job, released at 0, goes on when the new one comes at 1
 
 abbrev h-tasks : List Task
-h-tasks = made 0 1 10 10 2 5 0 ∷ made 2 2 10 10 3 5 0 ∷ []
+h-tasks = completedTask 1 10 10 2 5 ∷ newTask 1 10 10 3 5 0 ∷ []
 
 h-need : ℕ → ℕ → ℕ
 h-need i r = cond (eqb i r) (i + 2) 0
