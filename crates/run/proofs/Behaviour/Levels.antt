@@ -47,6 +47,12 @@ Budget n tk R B =
 
 -- ---- kinds
 
+-- only aborted jobs vanish
+pub others-present : (k : Kind) (q t : ℕ) → (k ≡ aborted → ⊥) → Present k q t
+others-present completed q t h = tt
+others-present aborted q t h = absurd (h refl)
+others-present new q t h = tt
+
 pub keep-le : (k : Kind) (q t x : ℕ) → keep k q t x ≤ x
 keep-le completed q t x = omega arith
 keep-le aborted q t x = pick-below (ltb t q) x x (le-refl x)

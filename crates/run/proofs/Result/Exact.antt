@@ -11,14 +11,14 @@ use Rattle.base.proofs.Sums.{sum-eq, sum-cut, sum-late}
 use Rattle.block.specs.declared.Task.{Task}
 use Rattle.window.specs.Order.{Kind, completed, aborted, new, kindOf, rank}
 use Rattle.window.specs.Demand.{jobs}
-use Rattle.run.specs.Run.{Run, Job, service, Ended, MayCome, Present, Releases, Preemptive, IsRun}
+use Rattle.run.specs.Run.{Run, Job, service, Ended, MayCome, Releases, Preemptive, IsRun}
 use Rattle.run.specs.Promise.{NoAbortedAbove, Reached}
 use Rattle.run.proofs.Picks.{pick, pick-pos, pick-zero, pick-below}
 use Rattle.run.proofs.Tasks.{Sound}
 use Rattle.run.proofs.Analysis.Counted.{every, every-le, every-apart, every-sum}
 use Rattle.run.proofs.Analysis.Demands.{atPhase, demandPhase, above-le}
 use Rattle.run.proofs.Behaviour.Accounts.{work, service-le}
-use Rattle.run.proofs.Behaviour.Levels.{inLevel}
+use Rattle.run.proofs.Behaviour.Levels.{inLevel, others-present}
 use Rattle.run.proofs.Behaviour.Built.{built, built-schedule, built-run}
 use Rattle.run.proofs.Result.Waited.{waited}
 
@@ -65,12 +65,6 @@ worst-sum new a x f p h =
     y : ℕ
     y = x + a .offset
 
--- only aborted jobs vanish
-always : (k : Kind) (q t : ℕ) → (k ≡ aborted → ⊥) → Present k q t
-always completed q t h = tt
-always aborted q t h = absurd (h refl)
-always new q t h = tt
-
 -- the request at x, and these releases of the tasks of i's level
 module _ (n : ℕ) (tk : ℕ → Task) (i x : ℕ) where
   unfoldable pub worstNeed : ℕ → ℕ → ℕ
@@ -110,7 +104,7 @@ module _ (n : ℕ) (tk : ℕ → Task) (G : Sound n tk) (i x : ℕ) (l : i < n) 
   not-before : kindOf (tk i) ≡ completed → NoAbortedAbove n tk i → (t : ℕ) → Ended R i 0 t
       → (f : ℕ) × (0 < f) × (f ≤ t) × (demandPhase n tk i x f ≤ f)
   not-before ki clear t e =
-      let w = waited n tk R G worst-schedule i 0 0 t l (λ j u m v. absurd (omega arith)) (λ j u m h v. always (kindOf (tk j)) (R .request) u (clear j m h))
+      let w = waited n tk R G worst-schedule i 0 0 t l (λ j u m v. absurd (omega arith)) (λ j u m h v. others-present (kindOf (tk j)) (R .request) u (clear j m h))
       (omega (arith, first-job ki, G .execution i l)) e in (
         w .0,
         w .1,
