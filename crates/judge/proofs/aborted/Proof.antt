@@ -9,7 +9,7 @@ aborted-row-requires c κs =
     let a = c .before .before .before .before .before .before .before .before .before .before .args in
     let g = c .before .before .before .before .before .gather .ensures in
     let q = c .before .before .before .before .before .before .before .before .before .before .pre in
-    (rw (g .0, g .1) (terms-ready (a .olds .now) _ 4 (a .before .now) (a .n) (q .0 .0) (q .0 .1)), omega (arith, c .before .own-time .ensures), omega (arith, c .before .own-time .ensures, c .wider .ensures), omega (arith, c .wider .ensures))
+    (rw (g .0, g .1) (terms-ready (a .olds .now) _ _ (a .before .now) (a .n) (q .0 .0) (q .0 .1)), omega (arith, c .before .own-time .ensures), omega (arith, c .before .own-time .ensures, c .wider .ensures), omega (arith, c .wider .ensures))
 
 returns : tie.Need-returns
 returns c =

@@ -10,7 +10,7 @@ completed-row-requires c κs =
     let g = c .before .before .before .before .before .before .before .before .before .before .gather .ensures in
     let h = c .before .before .before .before .before .before .gather2 .ensures in
     let q = c .before .before .before .before .before .before .before .before .before .before .before .before .before .before .before .before .before .pre in
-    (rw (g .0, g .1) (terms-ready (a .olds .now) _ 3 (a .before .now) (a .n) (q .0 .0) (q .0 .2)), rw (h .0, h .1) (terms-ready (a .news .now) _ 4 (a .after .now) (a .k) (q .0 .1) (q .0 .3)), omega (arith, c .before .own-time .ensures), omega (arith, c .before .own-time .ensures, c .wider .ensures), omega (arith, c .wider .ensures))
+    (rw (g .0, g .1) (terms-ready (a .olds .now) _ _ (a .before .now) (a .n) (q .0 .0) (q .0 .2)), rw (h .0, h .1) (terms-ready (a .news .now) _ _ (a .after .now) (a .k) (q .0 .1) (q .0 .3)), omega (arith, c .before .own-time .ensures), omega (arith, c .before .own-time .ensures, c .wider .ensures), omega (arith, c .wider .ensures))
 
 returns : tie.Need-returns
 returns c =

@@ -10,7 +10,7 @@ new-row-requires c κs =
     let g = c .before .before .before .before .before .before .before .before .gather .ensures in
     let h = c .before .before .before .before .gather2 .ensures in
     let q = c .before .before .before .before .before .before .before .before .before .before .before .before .before .before .before .before .pre in
-    (rw (g .0, g .1) (terms-ready (a .news .now) _ 3 (a .before .now) (a .k) (q .0 .1) (q .0 .2)), rw (h .0, h .1) (terms-ready (a .news .now) _ 4 (a .after .now) (a .k) (q .0 .1) (q .0 .3)), omega (arith, c .before .before .before .before .before .before .before .before .before .before .left .ensures), q .1 .0, q .1 .1)
+    (rw (g .0, g .1) (terms-ready (a .news .now) _ _ (a .before .now) (a .k) (q .0 .1) (q .0 .2)), rw (h .0, h .1) (terms-ready (a .news .now) _ _ (a .after .now) (a .k) (q .0 .1) (q .0 .3)), omega (arith, c .before .before .before .before .before .before .before .before .before .before .left .ensures), q .1 .0, q .1 .1)
 
 returns : tie.Need-returns
 returns c =
