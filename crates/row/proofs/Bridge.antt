@@ -109,7 +109,7 @@ module _ (i : Task) (some : 1 ≤ ownTime i) (o : List ℕ) (n : ℕ) (xs : List
   abbrev count : ℕ
   count = countAbove o (rank i) n
 
-  steady-old : 4 * n ≤ length l → flatSteady old count (ownTime i) (i .deadline) ≡ steadyWindow xs i
+  pub steady-old : 4 * n ≤ length l → flatSteady old count (ownTime i) (i .deadline) ≡ steadyWindow xs i
   unfolding flatSteady phaseDemand sumAbove sumOf
   steady-old room =
       window-same (flatDemand old count old 0 (ownTime i) (i .deadline)) (phaseDemand xs [] i (i .deadline)) (i .deadline) same
@@ -133,7 +133,7 @@ module _ (i : Task) (some : 1 ≤ ownTime i) (o : List ℕ) (n : ℕ) (xs : List
     abbrev count′ : ℕ
     count′ = countAbove w (rank i) k
 
-    phase-flat : 4 * n ≤ length l → flatDemand old count later count′ (ownTime i) ≡ phaseDemand xs ys i
+    pub phase-flat : 4 * n ≤ length l → flatDemand old count later count′ (ownTime i) ≡ phaseDemand xs ys i
     unfolding flatDemand phaseDemand
     phase-flat room = λ z. λ x t. eq x t z
       where
@@ -151,12 +151,12 @@ module _ (i : Task) (some : 1 ≤ ownTime i) (o : List ℕ) (n : ℕ) (xs : List
       abbrev own : List ℕ
       own = termsAbove w (rank i) 3 l k
 
-      steady-new : flatSteady own count′ (ownTime i) (i .deadline) ≡ steadyWindow ys i
+      pub steady-new : flatSteady own count′ (ownTime i) (i .deadline) ≡ steadyWindow ys i
       steady-new =
           whole-steady w k ys i told l room well 3 (omega arith)
           (λ j h. ap (λ (q : ℕ). one (eqb q 1)) (legal′ .rules j (omega (arith, told .count)) .new refl))
 
-      request-new : flatRequest later count′ (ownTime i + leftAbove o (rank i) n) (i .offset + i .deadline) ≡ requestWindow xs ys i
+      pub request-new : flatRequest later count′ (ownTime i + leftAbove o (rank i) n) (i .offset + i .deadline) ≡ requestWindow xs ys i
       unfolding flatRequest requestDemand
       request-new =
           window-same (flatDemand later 0 later count′ (ownTime i + leftAbove o (rank i) n) 0) (requestDemand xs ys i) (i .offset + i .deadline)
