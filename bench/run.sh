@@ -6,12 +6,6 @@
 set -eu
 here=$(CDPATH='' cd -- "$(dirname -- "$0")" && pwd -P)
 cd "$(dirname -- "$here")"
-archive=target/staticlib/libvisnumar.a
-test -f $archive || { echo "bench: $archive is missing: run 'rt staticlib visnumar' in $PWD" >&2; exit 1; }
-command -v rt >/dev/null || { echo "bench: rt is not on the PATH; its kit has the compiler and linker" >&2; exit 1; }
-kit=$(dirname -- "$(dirname -- "$(rt doc)")")
-processor=$(uname -m)
-tools=$kit/on/$processor/toolchain
 work=$(mktemp -d)
 trap 'rm -rf "$work"' EXIT
 trap 'exit 1' HUP INT TERM
@@ -19,14 +13,12 @@ trap 'exit 1' HUP INT TERM
 compile() {
     from=$1 to=$2
     shift 2
-    "$tools/bin/clang" --target=x86_64-unknown-linux-gnu -nostdinc -isystem tests/c-headers -Iinclude -std=c99 -Wall -Wextra \
-        -Werror -O2 -fPIE "$@" -c "bench/$from.c" -o "$work/$to.o"
+    tools/build-c compile "bench/$from.c" "$work/$to.o" "$@"
 }
 link() {
     to=$1
     shift
-    "$kit/on/$processor/bin/rattle-link" --target x86_64-unknown-linux-gnu --toolchain "$tools" -o "$work/$to" "$@" $archive \
-        >"$work/log" 2>&1 || { cat "$work/log"; exit 1; }
+    tools/build-c link "$work/$to" "$@"
 }
 
 compile bench bench

@@ -9,22 +9,14 @@ here=$(CDPATH='' cd -- "$(dirname -- "$0")" && pwd -P)
 root=$(dirname -- "$here")
 cd "$root"
 archive=target/staticlib/libvisnumar.a
-test -f $archive || { echo "c-example: $archive is missing: run 'rt staticlib visnumar' in $root" >&2; exit 1; }
 work=$(mktemp -d)
 trap 'rm -rf "$work"' EXIT
 trap 'exit 1' HUP INT TERM
 strict="-std=c99 -Wall -Wextra -Wconversion -Werror"
 
-command -v rt >/dev/null || { echo "c-example: rt is not on the PATH; its kit has the compiler and linker" >&2; exit 1; }
-kit=$(dirname -- "$(dirname -- "$(rt doc)")")
-processor=$(uname -m)
-tools=$kit/on/$processor/toolchain
 for name in check_pair write_block; do
-    # shellcheck disable=SC2086 # words
-    "$tools/bin/clang" --target=x86_64-unknown-linux-gnu -nostdinc -isystem tests/c-headers -Iinclude $strict -O2 -fPIE \
-        -c examples/$name.c -o "$work/$name.o"
-    "$kit/on/$processor/bin/rattle-link" --target x86_64-unknown-linux-gnu --toolchain "$tools" -o "$work/$name" \
-        "$work/$name.o" $archive >"$work/log" 2>&1 || { cat "$work/log"; exit 1; }
+    tools/build-c compile examples/$name.c "$work/$name.o" -Wconversion
+    tools/build-c link "$work/$name" "$work/$name.o"
 done
 
 tests/same-verdicts.sh "check_pair by the kit" bin/run-built "$work/check_pair"
@@ -77,7 +69,7 @@ if command -v cc >/dev/null; then
         # shellcheck disable=SC2086 # words
         cc $strict -pedantic -Iinclude -O2 -c examples/$name.c -o "$work/$name.here.o"
     done
-    if test "$processor" = x86_64; then
+    if test "$(uname -m)" = x86_64; then
         cc -o "$work/check_pair.here" "$work/check_pair.here.o" $archive
         tests/same-verdicts.sh "check_pair by this system's cc" "$work/check_pair.here"
     else
@@ -88,7 +80,7 @@ else
 fi
 if command -v c++ >/dev/null; then
     c++ -std=c++11 -Wall -Wextra -pedantic -Werror -Iinclude -c "$work/header.cc" -o "$work/header.o"
-    if test "$processor" = x86_64; then
+    if test "$(uname -m)" = x86_64; then
         c++ -o "$work/header" "$work/header.o" $archive
         "$work/header"
     fi
