@@ -44,6 +44,7 @@ programs: setup
 library: lib programs
 	tests/c-example.sh
 	tests/rust-page.sh
+	tests/second/library.sh
 
 lib: setup
 	$(RT) staticlib visnumar

@@ -1,4 +1,4 @@
-/* What the C examples need of <stddef.h>: the kit's clang comes without headers for x86-64. */
+/* What the programs in C need of <stddef.h>: the kit's clang comes without headers for x86-64. */
 #ifndef STDDEF_H
 #define STDDEF_H
 typedef __SIZE_TYPE__ size_t;

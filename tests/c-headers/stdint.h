@@ -1,4 +1,4 @@
-/* What the C examples need of <stdint.h>: the kit's clang comes without headers for x86-64. */
+/* What the programs in C need of <stdint.h>: the kit's clang comes without headers for x86-64. */
 #ifndef STDINT_H
 #define STDINT_H
 typedef __UINT8_TYPE__ uint8_t;

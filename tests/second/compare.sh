@@ -6,7 +6,7 @@
 # COMMAND reads a framed stream and writes the outcomes; the head of second.rs says the form of both for each KIND: batch
 # (the printing program's lines, the default), read, write or analyse. With COMMAND "second" the second program itself
 # stands in. Then the comparison's own test: with each planted fault a difference must show within the same inputs
-# (TEETH=no in the environment leaves that out).
+# (TEETH=no in the environment leaves that out). SECOND in the environment is a second program that is built already.
 set -eu
 here=$(dirname "$0")
 command=${1:?usage: compare.sh COMMAND [KIND [COUNT [SEED]]]}
@@ -16,13 +16,13 @@ seed=${4:-1}
 work=$(mktemp -d)
 trap 'rm -rf "$work"' EXIT
 trap 'exit 1' HUP INT TERM
-second=$work/second
+second=${SECOND:-$work/second}
 
 progress() {
     if [ -t 2 ]; then printf '%s\n' "$*" >&2; fi
 }
 
-rustc -O --edition 2021 -o "$second" "$here/second.rs"
+test -n "${SECOND:-}" || rustc -O --edition 2021 -o "$second" "$here/second.rs"
 test "$command" != second || command="$second $kind"
 echo "$kind: $count inputs from seed $seed"
 progress "generating"

@@ -23,7 +23,7 @@ use tables::*;
 const LENT: u32 = 0xEEEE_EEEE;
 
 /// The planted faults by number, from 1, each with the kind of stream that has to show it.
-const FAULTS: [(&str, &str); 31] = [
+const FAULTS: [(&str, &str); 32] = [
     ("batch", "floor for ceil in the completed terms of a phase"),
     ("batch", "t for m: completed tasks go on releasing after the request"),
     ("batch", "the aborted term without its min"),
@@ -55,6 +55,7 @@ const FAULTS: [(&str, &str); 31] = [
     ("write", "list length judged after side and count"),
     ("analyse", "a late task named before a short report"),
     ("analyse", "the report cleared past the last row"),
+    ("analyse", "offsets forgotten in the request window"),
 ];
 
 #[derive(Clone, Copy, Debug)]
@@ -235,7 +236,7 @@ impl Second {
         let term = |v: &Task| match v.kind {
             COMPLETED => v.c * (self.fault != 23) as u32,
             ABORTED => v.c * (self.fault == 15) as u32,
-            _ => t.saturating_sub(v.y).div_ceil(v.t) * v.c,
+            _ => t.saturating_sub(if self.fault == 32 { 0 } else { v.y }).div_ceil(v.t) * v.c,
         };
         i.c + above.iter().map(term).sum::<u32>()
     }
