@@ -3,12 +3,14 @@
 # make lib    target/staticlib/libvisnumar.a, for C and Rust to link with include/visnumar.h
 # make bench  the proved library beside plain C, as ratios (docs/BENCH.md)
 # make soak   random inputs against the second program for SECONDS (60)
+# make shares every crate proved from nothing, and what each takes; refused where one takes more than 4 times what base takes
 # make sweep  every small change of the block's definitions, which the prover has to refuse (ten minutes or more)
 .POSIX:
-.PHONY: run test setup text programs library lib bench soak sweep clean
+.PHONY: run test setup text programs library lib bench soak shares sweep clean
 SECONDS = 60
 # rt, with its passing files in memory where there is room
-RT = TMPDIR=$$(tools/scratch) rt
+SCRATCH = TMPDIR=$$(tools/scratch)
+RT = $(SCRATCH) rt
 
 run: setup
 	@$(RT) check report
@@ -18,7 +20,7 @@ run: setup
 	bin/visnumar explain examples/pump-old.blk examples/pump-new.blk
 
 test: setup text programs library
-	$(RT) ci
+	$(SCRATCH) tests/shares rt ci
 
 setup:
 	@tools/setup
@@ -55,6 +57,9 @@ bench: lib
 soak: setup
 	$(RT) check batch
 	tests/soak.sh $(SECONDS)
+
+shares: setup
+	$(RT) prove | tests/shares
 
 sweep: setup
 	tests/sweep.py
