@@ -42,7 +42,7 @@ fn pairs(seed: u64, count: u64) -> Vec<Pair> {
 }
 
 /// The rows in an outcome of the printing program, if it accepts the pair.
-fn rows(pair: &Pair, outcome: &str) -> Option<Vec<[u32; 3]>> {
+fn rows(pair: &Pair, outcome: &str) -> Option<Vec<Row>> {
     let mut lines = outcome.lines();
     if lines.next()?.starts_with("refused ") {
         return None;
@@ -51,7 +51,7 @@ fn rows(pair: &Pair, outcome: &str) -> Option<Vec<[u32; 3]>> {
         let words: Vec<&str> = lines.next().expect("a row is missing").split(' ').collect();
         let n: Vec<u32> = words[1..].iter().map(|w| w.parse().expect("a number")).collect();
         assert!(words[0] == ["o", "a", "n"][v.kind as usize] && n[0] == v.number, "a row of another task");
-        [n[1], n[2], n[3]]
+        n[1..].try_into().expect("a row's numbers")
     };
     Some(pair.tasks().iter().map(row).collect())
 }
@@ -159,7 +159,7 @@ struct Tally {
 
 impl Tally {
     /// Shows the first violation.
-    fn show(&self, what: &str, tasks: &[Task], rows: &[[u32; 3]], plan: &Plan) {
+    fn show(&self, what: &str, tasks: &[Task], rows: &[Row], plan: &Plan) {
         if self.late + self.missed == 1 {
             println!("{what}\n{plan:?}");
             tasks.iter().zip(rows).for_each(|(v, row)| println!("{v:?} row {row:?}"));
@@ -171,7 +171,7 @@ impl Tally {
         &mut self,
         r: &mut Random,
         tasks: &[Task],
-        rows: &[[u32; 3]],
+        rows: &[Row],
         plan: &Plan,
         rule: usize,
         reach: Option<(usize, u32)>,
@@ -194,7 +194,7 @@ impl Tally {
     }
 
     /// Runs that aim at the worst case of each task, reaching the numbers that a run can reach.
-    fn aimed(&mut self, r: &mut Random, tasks: &[Task], rows: &[[u32; 3]], rule: usize) {
+    fn aimed(&mut self, r: &mut Random, tasks: &[Task], rows: &[Row], rule: usize) {
         let (d, y) = tasks.iter().fold((0, 0), |m, v| (v.d.max(m.0), v.y.max(m.1)));
         for (k, v) in tasks.iter().enumerate() {
             let s = r.below(5);

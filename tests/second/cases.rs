@@ -41,7 +41,7 @@ fn one(lines: &[&str]) -> (Vec<u8>, String) {
     for (edit, n) in edits {
         match edit {
             "set" => input[n[0]] = n[1] as u8,
-            "mend" => input.chunks_exact_mut(512).for_each(mend),
+            "mend" => input.chunks_exact_mut(BLOCK).for_each(mend),
             _ => input.resize(n[0], 0),
         }
     }

@@ -83,17 +83,18 @@ fn damaged(r: &mut Random, s: Shape) -> Vec<u8> {
     let mut input = settled(r, s).bytes();
     for _ in 0..r.pick(&[1, 1, 2, 3]) {
         let side = r.below(2) as usize;
-        damage(r, &mut input[512 * side..512 * side + 512]);
+        damage(r, &mut input[BLOCK * side..BLOCK * (side + 1)]);
     }
     input
 }
 
 fn damage(r: &mut Random, b: &mut [u8]) {
-    let n = b[3].min(30) as u32;
-    let free = 8 + 16 * n as usize;
+    let n = b[3].min(MOST as u8) as u32;
+    let free = HEAD + RECORD * n as usize;
     let any = r.range(0, 255) as u8;
     let byte = r.pick(&[1, 2, 31, 128, 255, any]);
-    let record = |r: &mut Random| 8 + 16 * r.below(n.max(1)) as usize;
+    let record = |r: &mut Random| HEAD + RECORD * r.below(n.max(1)) as usize;
+    let within = |r: &mut Random, (from, to): Field| r.range(from as u32, to as u32 - 1) as usize;
     match r.below(14) {
         0 => b[r.below(2) as usize] ^= byte,
         1 => b[2] = r.pick(&[0, 1, 2, byte]),
@@ -101,13 +102,13 @@ fn damage(r: &mut Random, b: &mut [u8]) {
         3 => b[4 + r.below(2) as usize] = byte,
         4 => b[6 + r.below(2) as usize] = byte,
         5 => b[record(r)] = r.pick(&[0, 1, 2, 3, byte]),
-        6 => b[record(r) + r.range(1, 15) as usize] = byte,
-        7 => b[record(r) + r.range(12, 15) as usize] = byte,
+        6 => b[record(r) + within(r, (1, RECORD))] = byte,
+        7 => b[record(r) + within(r, ZEROS)] = byte,
         8 => {
             // An edge of a rule: T, D, C or Y becomes 0, 1, or a neighbour of T or D of the record.
             let p = record(r);
-            let field = p + r.pick(&[4, 6, 8, 10]);
-            let near = p + r.pick(&[4, 6]);
+            let field = p + r.pick(&[PERIOD, DEADLINE, EXECUTION, OFFSET]).0;
+            let near = p + r.pick(&[PERIOD, DEADLINE]).0;
             let near = u16::from_le_bytes([b[near], b[near + 1]]);
             let v = r.pick(&[0, 1, near.wrapping_sub(1), near, near.wrapping_add(1)]);
             b[field..field + 2].copy_from_slice(&v.to_le_bytes());
@@ -115,12 +116,12 @@ fn damage(r: &mut Random, b: &mut [u8]) {
         9 | 10 => {
             // A number or a priority doubled, by the later or the earlier record.
             let (p, q) = (record(r), record(r));
-            let (from, to) = r.pick(&[(1, 2), (2, 4)]);
+            let (from, to) = r.pick(&[PRIORITY, NUMBER]);
             (from..to).for_each(|j| b[p + j] = b[q + j]);
         }
-        11 => b[r.pick(&[free, free + 1, 507, 506]).min(507)] = byte,
-        12 => b[r.range(free as u32, 507) as usize] = byte,
-        _ => b[508 + r.below(4) as usize] ^= byte,
+        11 => b[r.pick(&[free, free + 1, CHECK - 1, CHECK - 2]).min(CHECK - 1)] = byte,
+        12 => b[within(r, (free, CHECK))] = byte,
+        _ => b[within(r, (CHECK, BLOCK))] ^= byte,
     }
     if r.percent(85) {
         mend(b);
@@ -141,11 +142,12 @@ fn noise(r: &mut Random) -> Vec<u8> {
     let any = r.range(0, 1_100);
     let length = r.pick(&[1_024, 1_024, any]);
     let mut input: Vec<u8> = (0..length).map(|_| r.next() as u8).collect();
-    for (side, b) in input.chunks_exact_mut(512).take(2).enumerate() {
+    for (side, b) in input.chunks_exact_mut(BLOCK).take(2).enumerate() {
         if r.percent(50) {
             // Noise behind a good head and a good check.
-            let head = [0x4D, 0x54, side as u8, b[3] % 31];
-            b[..4].copy_from_slice(&head);
+            b[..2].copy_from_slice(&MARK);
+            b[2] = side as u8;
+            b[3] %= MOST as u8 + 1;
             b[6..8].fill(0);
             mend(b);
         }
@@ -153,14 +155,20 @@ fn noise(r: &mut Random) -> Vec<u8> {
     input
 }
 
+/// Lent room: what is needed, a number less or more, what is always enough, none, or any.
+fn room(r: &mut Random, need: u32, enough: usize) -> u16 {
+    let any = r.range(0, enough as u32 + 10);
+    r.pick(&[need, need, need.max(1) - 1, need + 1, enough as u32, 0, any]) as u16
+}
+
 fn reader_input(r: &mut Random) -> Vec<u8> {
     let input = program_input(r);
     let side = r.below(2);
-    let block = if side == 0 { &input[..input.len().min(512)] } else { &input[input.len().min(512)..] };
+    let (old, new) = input.split_at(input.len().min(BLOCK));
+    let block = [old, new][side as usize];
     let wanted = r.pick(&[side, side, side, side, side, 1 - side, 2, 255]);
-    let need = 7 * block.get(3).map_or(0, |&n| n as u32);
-    let any = r.range(0, 220);
-    let room = r.pick(&[need, need, need.max(1) - 1, need + 1, 210, 0, any]) as u16;
+    let need = ENTRY as u32 * block.get(3).map_or(0, |&n| n as u32);
+    let room = room(r, need, ENTRY * MOST);
     [&[wanted as u8][..], &room.to_le_bytes(), block].concat()
 }
 
@@ -194,18 +202,18 @@ fn writer_input(r: &mut Random) -> Vec<u8> {
                 list[q],
             ]);
             // A number or a priority doubled.
-            let same = q / 7 * 7 + p % 7;
+            let same = q / ENTRY * ENTRY + p % ENTRY;
             if r.percent(30) {
                 list[same] = list[p];
             }
         }
     }
     if r.percent(8) {
-        list.resize(r.range(0, 230) as usize, 1);
+        list.resize(r.range(0, (ENTRY * MOST) as u32 + 20) as usize, 1);
     }
     let side = r.pick(&[side, side, side, side, side, side, 1 - side, 2, 255]) as u8;
-    let any = r.range(0, 600);
-    let room = r.pick(&[512, 512, 512, 512, 512, 512, 511, 513, 0, any]) as u16;
+    let (any, whole) = (r.range(0, 600), BLOCK as u32);
+    let room = r.pick(&[whole, whole, whole, whole, whole, whole, whole - 1, whole + 1, 0, any]) as u16;
     let mut input = [&[side][..], &(pair.modes[0] as u16).to_le_bytes(), &room.to_le_bytes()].concat();
     list.iter().for_each(|v| input.extend(v.to_le_bytes()));
     input
@@ -214,9 +222,7 @@ fn writer_input(r: &mut Random) -> Vec<u8> {
 fn analysis_input(r: &mut Random) -> Vec<u8> {
     let input = program_input(r);
     let count = |at: usize| input.get(at).map_or(0, |&n| n as u32);
-    let need = 3 * (count(3) + count(515));
-    let any = r.range(0, 190);
-    let room = r.pick(&[need, need, need.max(1) - 1, need + 1, 180, 0, any]) as u16;
-    let split = input.len().min(512) as u16;
+    let room = room(r, ROW as u32 * (count(3) + count(BLOCK + 3)), ROW * 2 * MOST);
+    let split = input.len().min(BLOCK) as u16;
     [&room.to_le_bytes()[..], &split.to_le_bytes(), &input].concat()
 }

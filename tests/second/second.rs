@@ -103,8 +103,7 @@ impl Second {
     fn breaks(&self, side: u32, v: &Task) -> bool {
         let kind = if side == 0 { v.kind == COMPLETED || v.kind == ABORTED } else { v.kind == NEW };
         let c = v.c >= 1 && if self.fault == 12 { v.c < v.d } else { v.c <= v.d };
-        let fits = v.priority <= 255 && v.number <= 65_535 && v.t <= 65_535 && v.y <= 65_535;
-        !(kind && fits && v.t >= 1 && c && v.d <= v.t && (side == 1 || v.y == 0))
+        !(kind && v.fits() && v.t >= 1 && c && v.d <= v.t && (side == 1 || v.y == 0))
     }
 
     /// The first record that bears a number or priority of an earlier one.
@@ -120,32 +119,24 @@ impl Second {
         if side == 2 && self.fault == 25 {
             return refuse(4, 2, 0, 0);
         }
-        if b.len() != 512 {
+        if b.len() != BLOCK {
             return refuse(1, side, 0, 0);
         }
-        if sum(b, if self.fault == 8 { 126 } else { 127 }) != two(508) + 65_536 * two(510) {
+        if sum(b, CHECK / 4 - (self.fault == 8) as usize) != two(CHECK) + 65_536 * two(CHECK + 2) {
             return refuse(2, side, 0, 0);
         }
-        if b[0] != 0x4D || b[1] != 0x54 {
+        if b[..2] != MARK {
             return refuse(3, side, 0, 0);
         }
-        if side == 2 || b[2] as u32 != wanted || b[3] > 30 || two(6) != 0 {
+        if side == 2 || b[2] as u32 != wanted || b[3] as usize > MOST || two(6) != 0 {
             return refuse(4, side, 0, 0);
         }
-        let places: Vec<usize> = (0..b[3] as usize).map(|k| 8 + 16 * k).collect();
-        let record = |&p: &usize| Task {
-            kind: b[p] as u32,
-            priority: b[p + 1] as u32,
-            number: two(p + 2),
-            t: two(p + 4),
-            d: two(p + 6),
-            c: two(p + 8),
-            y: two(p + 10),
-        };
-        let tasks: Vec<Task> = places.iter().map(record).collect();
-        let broken = tasks.iter().zip(&places).position(|(v, &p)| self.breaks(side, v) || b[p + 12..p + 16] != [0; 4]);
-        let room = 8 + 16 * tasks.len() + (self.fault == 10) as usize;
-        let dirty = b[room..508 - (self.fault == 22) as usize].iter().any(|&byte| byte != 0);
+        let records = b[HEAD..].chunks(RECORD).take(b[3] as usize);
+        let tasks: Vec<Task> = records.clone().map(Task::of_record).collect();
+        let zeros = |part: &[u8]| part.iter().all(|&byte| byte == 0);
+        let broken = tasks.iter().zip(records).position(|(v, r)| self.breaks(side, v) || !zeros(&r[ZEROS.0..ZEROS.1]));
+        let room = HEAD + RECORD * tasks.len() + (self.fault == 10) as usize;
+        let dirty = !zeros(&b[room..CHECK - (self.fault == 22) as usize]);
         let mut found = [(5, broken), (6, self.doubled(&tasks)), (7, dirty.then_some(0))];
         match self.fault {
             13 => found.swap(0, 1),
@@ -168,7 +159,7 @@ impl Second {
                 return answer;
             }
         };
-        if 7 * tasks.len() > list.len() + (self.fault == 26) as usize {
+        if ENTRY * tasks.len() > list.len() + (self.fault == 26) as usize {
             return Answer([8, 2, 0, 0]);
         }
         list.iter_mut().zip(tasks.iter().flat_map(Task::list)).for_each(|(to, v)| *to = v);
@@ -177,21 +168,21 @@ impl Second {
 
     fn write(&self, side: u32, mode: u32, list: &[u32], block: &mut [u8]) -> Answer {
         let refusal = |code: u32, side: u32| Answer([code, side, 0, 0]);
-        if block.len() != 512 {
+        if block.len() != BLOCK {
             return refusal(1, side.min(2));
         }
-        let odd = list.len() % 7 != 0;
+        let odd = list.len() % ENTRY != 0;
         if odd && self.fault != 29 {
             return refusal(11, 2);
         }
-        if side > 1 || list.len() / 7 > 30 {
+        if side > 1 || list.len() / ENTRY > MOST {
             return refusal(4, side.min(2));
         }
         if odd {
             return refusal(11, 2);
         }
         let cut = |v: &[u32]| if self.fault == 28 { v.iter().map(|n| n % 65_536).collect() } else { v.to_vec() };
-        let tasks: Vec<Task> = list.chunks(7).map(|v| Task::of_list(&cut(v))).collect();
+        let tasks: Vec<Task> = list.chunks(ENTRY).map(|v| Task::of_list(&cut(v))).collect();
         if let Some(k) = tasks.iter().position(|v| self.breaks(side, v)) {
             return Answer([5, side, k as u32, 0]);
         }
@@ -242,7 +233,7 @@ impl Second {
     }
 
     /// Rows of two tables that keep the rules, or the first late task.
-    fn rows(&self, old: &[Task], new: &[Task]) -> Result<Vec<[u32; 3]>, Answer> {
+    fn rows(&self, old: &[Task], new: &[Task]) -> Result<Vec<Row>, Answer> {
         let over = |i: &Task, of: &[Task]| -> Vec<Task> { of.iter().filter(|v| self.above(v, i)).copied().collect() };
         let both = |i: &Task| [over(i, old), over(i, new)].concat();
         let limit = |d: u32| d + (self.fault == 6) as u32;
@@ -295,7 +286,7 @@ impl Second {
         let (old, one) = self.block(old, 0)?;
         let (new, other) = self.block(new, 1)?;
         let pair = Pair { old, new, modes: [one, other] };
-        let short = report.len() < 3 * pair.tasks().len();
+        let short = report.len() < ROW * pair.tasks().len();
         if short && self.fault != 30 {
             return refuse(8, 2, 0, 0);
         }
@@ -313,18 +304,18 @@ impl Second {
     // The outcomes as text.
 
     fn print(&self, input: &[u8]) -> String {
-        let (old, mut new) = input.split_at(input.len().min(512));
+        let (old, mut new) = input.split_at(input.len().min(BLOCK));
         if self.fault == 17 {
-            new = &new[..new.len().min(512)];
+            new = &new[..new.len().min(BLOCK)];
         }
-        let mut report = [LENT; 180];
+        let mut report = [LENT; ROW * 2 * MOST];
         match self.analyse(old, new, &mut report) {
             Err(answer) => format!("refused {answer}\n"),
             Ok(pair) => {
                 let mut text = format!("change {} {}\n", pair.modes[0], pair.modes[1]);
-                for (v, row) in pair.tasks().iter().zip(report.chunks(3)) {
+                for (v, row) in pair.tasks().iter().zip(report.chunks(ROW)) {
                     let side = ["o", "a", "n"][v.kind as usize];
-                    text += &format!("{side} {} {} {} {}\n", v.number, row[0], row[1], row[2]);
+                    text += &format!("{side} {} {}\n", v.number, words(row));
                 }
                 text
             }
@@ -333,7 +324,6 @@ impl Second {
 
     fn outcome(&self, kind: &str, input: &[u8]) -> String {
         let two = |at: usize| input[at] as u32 + 256 * input[at + 1] as u32;
-        let words = |v: &[u32]| v.iter().map(u32::to_string).collect::<Vec<_>>().join(" ");
         match kind {
             "batch" => self.print(input),
             "read" => {
@@ -356,6 +346,10 @@ impl Second {
             _ => usage(),
         }
     }
+}
+
+fn words(numbers: &[u32]) -> String {
+    numbers.iter().map(u32::to_string).collect::<Vec<_>>().join(" ")
 }
 
 fn hex(bytes: &[u8]) -> String {

@@ -3,11 +3,40 @@
 
 use std::io::{Read, Write};
 
+// The house format: a block's mark, its most tasks, and sizes and places in bytes.
+
+pub const MARK: [u8; 2] = [0x4D, 0x54];
+pub const MOST: usize = 30;
+pub const HEAD: usize = 8;
+pub const RECORD: usize = 16;
+pub const CHECK: usize = 508;
+pub const BLOCK: usize = 512;
+
+/// The fields of a record: where each starts and where it ends.
+pub type Field = (usize, usize);
+pub const KIND: Field = (0, 1);
+pub const PRIORITY: Field = (1, 2);
+pub const NUMBER: Field = (2, 4);
+pub const PERIOD: Field = (4, 6);
+pub const DEADLINE: Field = (6, 8);
+pub const EXECUTION: Field = (8, 10);
+pub const OFFSET: Field = (10, 12);
+/// The rest of a record is zero.
+pub const ZEROS: Field = (12, RECORD);
+
+/// A task's numbers in a list, in this order.
+pub const ENTRY: usize = 7;
+pub const FIELDS: [Field; ENTRY] = [KIND, PRIORITY, NUMBER, PERIOD, DEADLINE, EXECUTION, OFFSET];
+
+/// A task's numbers in a report.
+pub const ROW: usize = 3;
+pub type Row = [u32; ROW];
+
 pub const COMPLETED: u32 = 0;
 pub const ABORTED: u32 = 1;
 pub const NEW: u32 = 2;
 
-/// The seven numbers of a task, in the list's order: kind, priority, number, T, D, C, Y.
+/// A task's numbers, in the list's order.
 #[derive(Clone, Copy, Debug, Default)]
 pub struct Task {
     pub kind: u32,
@@ -24,8 +53,27 @@ impl Task {
         Task { kind: v[0], priority: v[1], number: v[2], t: v[3], d: v[4], c: v[5], y: v[6] }
     }
 
-    pub fn list(&self) -> [u32; 7] {
+    pub fn list(&self) -> [u32; ENTRY] {
         [self.kind, self.priority, self.number, self.t, self.d, self.c, self.y]
+    }
+
+    /// The task that a record's bytes say.
+    pub fn of_record(r: &[u8]) -> Task {
+        Task::of_list(&FIELDS.map(|(from, to)| r[from..to].iter().rev().fold(0, |v, &b| 256 * v + b as u32)))
+    }
+
+    /// The bytes of its record, numbers cut to their fields.
+    pub fn record(&self) -> [u8; RECORD] {
+        let mut r = [0; RECORD];
+        for ((from, to), v) in FIELDS.iter().zip(self.list()) {
+            r[*from..*to].copy_from_slice(&v.to_le_bytes()[..to - from]);
+        }
+        r
+    }
+
+    /// Whether each number fits its field.
+    pub fn fits(&self) -> bool {
+        FIELDS.iter().zip(self.list()).all(|((from, to), v)| v < 1 << (8 * (to - from)))
     }
 }
 
@@ -35,26 +83,18 @@ pub fn sum(block: &[u8], words: usize) -> u32 {
 }
 
 pub fn mend(block: &mut [u8]) {
-    let check = sum(block, 127);
-    block[508..512].copy_from_slice(&check.to_le_bytes());
+    let check = sum(block, CHECK / 4);
+    block[CHECK..BLOCK].copy_from_slice(&check.to_le_bytes());
 }
 
 /// A block's bytes. Nothing is checked here: numbers are cut to their fields, records past the thirtieth left out.
 pub fn encode(side: u32, mode: u32, tasks: &[Task]) -> Vec<u8> {
-    let mut b = vec![0u8; 512];
-    b[0] = 0x4D;
-    b[1] = 0x54;
+    let mut b = vec![0u8; BLOCK];
+    b[..2].copy_from_slice(&MARK);
     b[2] = side as u8;
     b[3] = tasks.len() as u8;
     b[4..6].copy_from_slice(&(mode as u16).to_le_bytes());
-    for (k, task) in tasks.iter().take(30).enumerate() {
-        let at = 8 + 16 * k;
-        b[at] = task.kind as u8;
-        b[at + 1] = task.priority as u8;
-        for (j, v) in task.list()[2..].iter().enumerate() {
-            b[at + 2 + 2 * j..at + 4 + 2 * j].copy_from_slice(&(*v as u16).to_le_bytes());
-        }
-    }
+    b[HEAD..].chunks_mut(RECORD).zip(tasks.iter().take(MOST)).for_each(|(r, v)| r.copy_from_slice(&v.record()));
     mend(&mut b);
     b
 }
