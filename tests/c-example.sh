@@ -1,6 +1,6 @@
 #!/bin/sh
 # Builds the examples in C with the kit's clang and linker, and runs them: check_pair on blocks, against what the command
-# prints for them; write_block on the examples' tables, against the blocks that make-block made of them. Then holds header
+# prints for them; write_block on the tasks of the examples' blocks, against these blocks. Then holds header
 # and examples against the C and C++ compilers of this system, where there are any; where not, a line says so.
 #
 # Needed: rt, the built program report, and the library (rt staticlib visnumar).
@@ -24,18 +24,10 @@ if bin/run-built "$work/check_pair" examples/no-such-file.blk examples/pump-new.
 echo "check_pair: examples/no-such-file.blk can't be read" | cmp - "$work/said"
 
 count=0
-for table in examples/*.txt; do
-    for side in 0 1; do
-        # A table's columns are letter, number, T, D, C, priority, Y; a list's kind, priority, number, T, D, C, Y.
-        words=$(sed 's/#.*//' "$table" | awk -v side=$side '
-            $1 == "change" { printf "%s", $(2 + side) }
-            $1 ~ /^[oan]$/ && ($1 == "n") == side { printf " %d %d %d %d %d %d %d", index("oan", $1) - 1, $6, $2, $3, $4, $5, $7 }')
-        # shellcheck disable=SC2086 # words
-        bin/run-built "$work/write_block" $side $words >"$work/block"
-        if test $side = 0; then kept=${table%.txt}-old.blk; else kept=${table%.txt}-new.blk; fi
-        cmp "$work/block" "$kept"
-        count=$((count + 1))
-    done
+for kept in examples/*.blk; do
+    # shellcheck disable=SC2046 # words
+    bin/run-built "$work/write_block" $(tools/blocks.py list "$kept") | cmp - "$kept"
+    count=$((count + 1))
 done
 # Each refusal of the writer that these words can bring: 11, 4 twice, 5 and 6. The block's length is always right.
 writer() {
@@ -47,13 +39,19 @@ writer() {
     fi
     echo "write_block: refused $wanted" | cmp - "$work/said"
 }
-writer "11 2 0 0" 0 1 0 1
-writer "4 2 0 0" 2 1
+# A task of a list: kind, priority, number, T, D, C, Y.
+entry() {
+    echo "$@"
+}
 # shellcheck disable=SC2046 # words
-writer "4 1 0 0" 1 1 $(awk 'BEGIN { for (k = 0; k < 31; k++) print 2, k, k, 1, 1, 1, 0 }')
-writer "5 0 1 0" 0 1 0 1 1 10 10 2 0 0 2 2 10 11 2 0
-writer "6 1 1 0" 1 1 2 1 1 10 10 2 0 2 1 2 10 10 2 0
-echo "write_block by the kit: $count blocks as make-block makes them, 5 refusals"
+{
+    writer "11 2 0 0" 0 1 0 1
+    writer "4 2 0 0" 2 1
+    writer "4 1 0 0" 1 1 $(k=0; while test $k -lt 31; do entry 2 $k $k 1 1 1 0; k=$((k + 1)); done)
+    writer "5 0 1 0" 0 1 $(entry 0 1 1 10 10 2 0) $(entry 0 2 2 10 11 2 0)
+    writer "6 1 1 0" 1 1 $(entry 2 1 1 10 10 2 0) $(entry 2 1 2 10 10 2 0)
+}
+echo "write_block by the kit: $count blocks written anew, 5 refusals"
 
 cat >"$work/header.cc" <<'END'
 #include "visnumar.h"
