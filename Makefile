@@ -3,10 +3,11 @@
 # make lib    target/staticlib/libvisnumar.a, for C and Rust to link with include/visnumar.h
 # make bench  the proved library beside plain C, as ratios (docs/BENCH.md)
 # make soak   random inputs against the second program for SECONDS (60)
+# make stored every stored block and expected file written anew, to read in git diff before it is committed
 # make shares every crate proved from nothing, and what each takes; refused where one takes more than 4 times what base takes
 # make sweep  every small change of the block's definitions, which the prover has to refuse (ten minutes or more)
 .POSIX:
-.PHONY: run test setup text programs library lib bench soak shares sweep clean
+.PHONY: run test setup text programs library lib bench soak stored shares sweep clean
 SECONDS = 60
 # rt, with its passing files in memory where there is room
 SCRATCH = TMPDIR=$$(tools/scratch)
@@ -30,6 +31,7 @@ text:
 	rt fmt --check
 	tests/contracts .
 	tests/scripts.sh
+	tests/stored.sh
 	tests/sweep.py steps
 
 # What users run, and the comparison with the second program.
@@ -57,6 +59,11 @@ bench: lib
 soak: setup
 	$(RT) check batch
 	tests/soak.sh $(SECONDS)
+
+# A program that prints something else than its file stdout is what this is for; the rest of the check must hold.
+stored: setup
+	-$(RT) check report batch analysis_cases reader_cases writer_cases
+	tests/stored.sh rewrite
 
 shares: setup
 	$(RT) prove | tests/shares
