@@ -1,19 +1,23 @@
 // Runs `analyse` through real blocks: cases a to j, the order of refusals, and the edges of the report. The tries stand in stdin, and its first
 // lines say how they are written. A line is printed as it stands; after a try come the four numbers of the answer, whether the lent report was kept
 // or changed, and, once done, the whole report.
+ghost use Prim.Native.Nat.{_≤_};
+ghost use Rattle.tries.specs.Tries.{mostNumbers};
 use block::BLOCK_SIZE;
 use block::LIST_SIZE;
+use block::MOST_TASKS;
 use libc::STDIN_FILENO;
+use rows::ROW_SIZE;
 use tries::MOST_NUMBERS;
 use tries::number;
 
-// The largest report lent.
-const MOST_ROOM: usize = 200;
+// The largest report lent: a number more than any pair's rows need.
+const MOST_ROOM: usize = ROW_SIZE * 2 * MOST_TASKS + 1;
 
 // What stands in a report before it is lent.
-fn untouched() -> [u32; 200] {
-    let mut report = [0u32; 200];
-    for i in 0..MOST_ROOM {
+fn untouched() -> [u32; MOST_ROOM] {
+    let mut report = [0u32; MOST_ROOM];
+    for i in 0..report.len() {
         report[i] = 1000 + i as u32;
     }
     report
@@ -21,18 +25,41 @@ fn untouched() -> [u32; 200] {
 
 // ---- the lists
 
-// The numbers of a line from word 4 on, a word between two tasks.
+// Where the numbers of a task start, and with one word more.
+fn task_by(name: u8, task: usize) -> usize
+    requires { ⌜ task ≤ mostNumbers ⌝ }
+    ensures { λ r. ⌜ r ≤ mostNumbers ⌝ }
+{
+    if name == b'a' {
+        return base::least(task + LIST_SIZE, MOST_NUMBERS);
+    }
+    task
+}
+
+// Puts a number where a list has such a place.
+fn put_number(list: &mut [u32], at: usize, x: u32) {
+    if at < list.len() {
+        list[at] = x;
+    }
+}
+
+// The fields that a line names from word 4 on, each with its number; `and` goes on to the next task.
 fn put_words(list: &mut [u32], line: &[u8]) {
-    for i in 0..list.len() {
-        list[i] = number(line, 4 + i + i / LIST_SIZE);
+    let mut task: usize = 0;
+    let mut k: usize = 4;
+    while k < line.len() {
+        let name = tries::letter(line, k);
+        task = task_by(name, task);
+        put_number(list, task + tries::field(name), number(line, k + 1));
+        k += 1;
     }
 }
 
 // The block of the list that a line says.
-fn block_of(line: &[u8], side: u32, mode: u16) -> [u8; 512] {
-    let mut list = tries::no_numbers();
+fn block_of(line: &[u8], side: u32, mode: u16) -> [u8; BLOCK_SIZE] {
+    let mut list = [0u32; MOST_NUMBERS];
     let mut block = tries::no_block();
-    let size = tries::length_of(line, 2, MOST_NUMBERS);
+    let size = tries::room(line, 1, LIST_SIZE, MOST_NUMBERS);
     put_words(&mut list, line);
     writer::write(side, mode, &list[0..size], &mut block);
     block
@@ -41,7 +68,7 @@ fn block_of(line: &[u8], side: u32, mode: u16) -> [u8; 512] {
 // ---- the tries
 
 // A block as a try has it: damaged, where the line names its side.
-fn tried(line: &[u8], side: u32, block: [u8; 512]) -> [u8; 512] {
+fn tried(line: &[u8], side: u32, block: [u8; BLOCK_SIZE]) -> [u8; BLOCK_SIZE] {
     let mut bytes = block;
     if number(line, 9) == side {
         tries::damage(&mut bytes, line);
@@ -60,11 +87,11 @@ fn tell(old: &[u8], new: &[u8], report: &mut [u32], before: &[u32]) {
 fn try_pair(line: &[u8], old: &[u8], new: &[u8]) {
     let before = untouched();
     let mut report = before;
-    let room = tries::length_of(line, 3, MOST_ROOM);
+    let room = tries::room(line, 2, ROW_SIZE, MOST_ROOM);
     tell(old, new, &mut report[0..room], &before);
 }
 
-fn try_blocks(line: &[u8], old: [u8; 512], new: [u8; 512]) {
+fn try_blocks(line: &[u8], old: [u8; BLOCK_SIZE], new: [u8; BLOCK_SIZE]) {
     let a = tried(line, 0, old);
     let b = tried(line, 1, new);
     let n = tries::length_of(line, 5, BLOCK_SIZE);
@@ -76,8 +103,8 @@ fn try_blocks(line: &[u8], old: [u8; 512], new: [u8; 512]) {
 
 // The blocks of the lists said last.
 struct Pair {
-    old: [u8; 512],
-    new: [u8; 512],
+    old: [u8; BLOCK_SIZE],
+    new: [u8; BLOCK_SIZE],
 }
 
 fn no_blocks() -> Pair {

@@ -13,17 +13,17 @@ use tries::number;
 // ---- the reader
 
 // The block of the good list that a line names, and past it one byte more.
-fn good_bytes(line: &[u8]) -> [u8; 513] {
+fn good_bytes(line: &[u8]) -> [u8; MOST_BYTES] {
     let side = number(line, 3);
     let list = tries::good_list(side);
-    let size = tries::length_of(line, 1, MOST_NUMBERS);
+    let size = tries::room(line, 0, LIST_SIZE, MOST_NUMBERS);
     let mut bytes = tries::no_bytes();
     writer::write(side, MODE, &list[0..size], &mut bytes[0..BLOCK_SIZE]);
     bytes
 }
 
 // The bytes that a line's reading or loading is of.
-fn bytes_of(line: &[u8]) -> [u8; 513] {
+fn bytes_of(line: &[u8]) -> [u8; MOST_BYTES] {
     let mut bytes = good_bytes(line);
     tries::damage(&mut bytes, line);
     bytes
@@ -39,13 +39,16 @@ fn writes_back(a: Answer, list: &[u32], end: usize, bytes: &[u8]) -> bool {
 
 // The first task, and the last where it is another.
 fn tell_accepted(a: Answer, list: &[u32], before: &[u32], bytes: &[u8]) {
-    let end = LIST_SIZE * (a.record as usize);
+    let count = a.record as usize;
+    let end = LIST_SIZE * count;
     says::say(b", rest");
     says::say_kept(tries::same_from(list, before, end));
     says::say_back(writes_back(a, list, end, bytes));
-    says::say_seven(list, base::least(end, LIST_SIZE));
-    if LIST_SIZE < end {
-        says::say_seven(list, end);
+    if 0 < count {
+        says::say_entry(list, 0);
+    }
+    if 1 < count {
+        says::say_entry(list, count - 1);
     }
 }
 
@@ -62,7 +65,7 @@ fn read(line: &[u8]) {
     let mut list = tries::no_numbers();
     let before = tries::no_numbers();
     let long = tries::length_of(line, 7, MOST_BYTES);
-    let room = tries::length_of(line, 9, MOST_NUMBERS);
+    let room = tries::room(line, 8, LIST_SIZE, MOST_NUMBERS);
     tell_read(
         &bytes[0..long],
         number(line, 5),

@@ -5,6 +5,7 @@ use block::BLOCK_SIZE;
 use block::CHECK_PLACE;
 use block::LIST_SIZE;
 use block::Loaded;
+use block::MOST_TASKS;
 use block::Table;
 use block::Task;
 use libc::STDOUT_FILENO;
@@ -72,19 +73,19 @@ pub fn say_check(bytes: &[u8])
 }
 
 fn say_task(x: Task) {
-    let mut seven = [0u32; 7];
-    numbers::put_numbers(&mut seven, x);
-    say_numbers(b",", &seven);
+    let mut entry = [0u32; LIST_SIZE];
+    numbers::put_numbers(&mut entry, x);
+    say_numbers(b",", &entry);
 }
 
-// The count, and the first, the second and the last of the thirty places.
+// The count, and the first, the second and the last of a table's places.
 fn say_table(table: Table) {
     let tasks = table.tasks;
     say(b", tasks ");
     io::print_decimal(STDOUT_FILENO, table.count as u64);
     say_task(tasks[0]);
     say_task(tasks[1]);
-    say_task(tasks[29]);
+    say_task(tasks[MOST_TASKS - 1]);
 }
 
 // A loading: the answer, the mode number, the table.
@@ -97,13 +98,14 @@ pub fn say_loaded(loaded: Loaded)
     say_table(loaded.table);
 }
 
-// The task whose seven numbers end at a place of a list.
-pub fn say_seven(list: &[u32], end: usize)
+// Task k of a list, where it has one.
+pub fn say_entry(list: &[u32], k: usize)
     ensures { λ r. ⌜ r ≡ tt ⌝ }
 {
-    if LIST_SIZE <= end {
-        if end <= list.len() {
-            say_numbers(b",", &list[end - LIST_SIZE..end]);
+    if k < MOST_TASKS {
+        let at = LIST_SIZE * k;
+        if at + LIST_SIZE <= list.len() {
+            say_numbers(b",", &list[at..at + LIST_SIZE]);
         }
     }
 }

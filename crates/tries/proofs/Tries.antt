@@ -13,7 +13,7 @@ use Rattle.base.specs.Lists.{upTo}
 use Rattle.block.specs.declared.Task.{Task}
 use Rattle.block.specs.Format.{listSize}
 use Rattle.block.specs.Block.{listOf}
-use Rattle.tries.specs.Tries.{wordBy, toldBy, numberFrom, agree}
+use Rattle.tries.specs.Tries.{wordBy, toldBy, numberFrom, letterFrom, agree}
 
 -- a byte more
 pub number-more : (k word x i : ℕ) (l : List ℕ) → i < length l → numberFrom k word x (drop i l) ≡ numberFrom k (wordBy word (getD l i 0)) (toldBy k word x (getD l i 0)) (drop (i + 1) l)
@@ -23,6 +23,19 @@ number-more k word x i l h = rw (add-one, drop-cons l i 0)
 pub number-end : (k word x i : ℕ) (l : List ℕ) → length l ≤ i → numberFrom k word x (drop i l) ≡ cond (ltb word k) 4294967295 x
 unfolding numberFrom
 number-end k word x i l h = rw drop-of-length-le
+
+-- the same of a letter: found here, further on, nowhere
+pub letter-here : (k word i : ℕ) (l : List ℕ) → i < length l → word ≡ k → letterFrom k word (drop i l) ≡ getD l i 0
+unfolding letterFrom
+letter-here k word i l h e = rw (drop-cons l i 0, eq-eqb _ _ e)
+
+pub letter-more : (k word i : ℕ) (l : List ℕ) → i < length l → (word ≡ k → ⊥) → letterFrom k word (drop i l) ≡ letterFrom k (wordBy word (getD l i 0)) (drop (i + 1) l)
+unfolding letterFrom
+letter-more k word i l h e = rw (add-one, drop-cons l i 0, ne-eqb _ _ e)
+
+pub letter-end : (k word i : ℕ) (l : List ℕ) → length l ≤ i → letterFrom k word (drop i l) ≡ 0
+unfolding letterFrom
+letter-end k word i l h = rw drop-of-length-le
 
 one-more : (t : Bool) (w : ℕ) → cond t (w + 1) w ≤ w + 1
 one-more true w = omega arith

@@ -8,6 +8,12 @@ use Rattle.tries.proofs.number.Reads as number
 use Rattle.tries.proofs.number.Kinds as number-kinds
 use Rattle.tries.proofs.length_of.Reads as length-of
 use Rattle.tries.proofs.length_of.Kinds as length-of-kinds
+use Rattle.tries.proofs.letter.Reads as letter
+use Rattle.tries.proofs.letter.Kinds as letter-kinds
+use Rattle.tries.proofs.room.Reads as room
+use Rattle.tries.proofs.room.Kinds as room-kinds
+use Rattle.tries.proofs.field.Reads as field
+use Rattle.tries.proofs.field.Kinds as field-kinds
 use Rattle.tries.proofs.good_list.Reads as good-list
 use Rattle.tries.proofs.good_list.Kinds as good-list-kinds
 use Rattle.tries.proofs.damage.Reads as damage
@@ -28,6 +34,18 @@ number-unique κs a r r′ s s′ p q = p ∙ sym q
 pub length-of-unique : (κs : Lfts 1) (a : Dens κs length-of-kinds.ps) (r r′ : resT length-of-kinds.r κs .Denot) (s s′ : AtExit (endedOf 1 length-of-kinds.ps length-of-kinds.r) κs)
     → length-of.Post κs a r s → length-of.Post κs a r′ s′ → r ≡ r′
 length-of-unique κs a r r′ s s′ p q = p ∙ sym q
+
+pub letter-unique : (κs : Lfts 1) (a : Dens κs letter-kinds.ps) (r r′ : resT letter-kinds.r κs .Denot) (s s′ : AtExit (endedOf 1 letter-kinds.ps letter-kinds.r) κs)
+    → letter.Post κs a r s → letter.Post κs a r′ s′ → r ≡ r′
+letter-unique κs a r r′ s s′ p q = p ∙ sym q
+
+pub room-unique : (κs : Lfts 1) (a : Dens κs room-kinds.ps) (r r′ : resT room-kinds.r κs .Denot) (s s′ : AtExit (endedOf 1 room-kinds.ps room-kinds.r) κs)
+    → room.Post κs a r s → room.Post κs a r′ s′ → r ≡ r′
+room-unique κs a r r′ s s′ p q = p ∙ sym q
+
+pub field-unique : (κs : Lfts 0) (a : Dens κs field-kinds.ps) (r r′ : resT field-kinds.r κs .Denot) (s s′ : AtExit (endedOf 0 field-kinds.ps field-kinds.r) κs)
+    → field.Post κs a r s → field.Post κs a r′ s′ → r ≡ r′
+field-unique κs a r r′ s s′ p q = p .0 ∙ sym (q .0)
 
 pub good-list-unique : (κs : Lfts 0) (a : Dens κs good-list-kinds.ps) (r r′ : resT good-list-kinds.r κs .Denot) (s s′ : AtExit (endedOf 0 good-list-kinds.ps good-list-kinds.r) κs)
     → good-list.Post κs a r s → good-list.Post κs a r′ s′ → r ≡ r′

@@ -3,16 +3,16 @@ ghost use mathlib.Core.Path.{_≡_};
 ghost use Prim.Native.Nat.{_<_, _≤_, min};
 ghost use lib.ListN.{length, drop};
 ghost use Rattle.block.specs.Format.{blockSize};
-ghost use Rattle.tries.specs.Tries.{wordBy, toldBy, numberOf, goodTask, goodList, putByte, mended, damaged, noNumbers, noBytes, noBlock, agree};
+ghost use Rattle.tries.specs.Tries.{wordBy, toldBy, numberOf, letterOf, shifted, roomOf, fieldOf, goodTasks, mostNumbers, goodTask, goodList, putByte, mended, damaged, noNumbers, noBytes, noBlock, agree};
 use block::BLOCK_SIZE;
 use block::CHECK_PLACE;
 use block::LIST_SIZE;
 use block::Task;
 
 // The largest memory lent: 32 tasks, and a byte more than a block.
-pub const MOST_NUMBERS: usize = 224;
+pub const MOST_NUMBERS: usize = LIST_SIZE * GOOD_TASKS;
 
-pub const MOST_BYTES: usize = 513;
+pub const MOST_BYTES: usize = BLOCK_SIZE + 1;
 
 // The mode number that is written.
 pub const MODE: u16 = 513;
@@ -71,10 +71,78 @@ pub fn length_of(line: &[u8], k: usize, most: usize) -> usize
     base::least(number(line, k) as usize, most)
 }
 
+// The first letter of word k of a line; 0 where the line has no such word.
+pub fn letter(line: &[u8], k: usize) -> u8
+    ensures { λ r. ⌜ r ≡ letterOf k (now (line .entry)) ⌝ }
+{
+    let mut word: usize = 0;
+    let mut i: usize = 0;
+    while i < line.len() {
+        let b = line[i];
+        if word == k {
+            return b;
+        }
+        word = word_by(word, b);
+        i += 1;
+    }
+    0
+}
+
+// A number less where a word starts with s (short-), a number more where it starts with e (extra-).
+fn shift(letter: u8, n: usize) -> usize
+    requires { ⌜ n < 1099511627776 ⌝ }
+    ensures { λ r. ⌜ r ≡ shifted letter n ⌝ }
+{
+    if letter == b's' {
+        return n - base::least(n, 1);
+    }
+    if letter == b'e' {
+        return n + 1;
+    }
+    n
+}
+
+// Room for as many tasks as word k + 1 says, at so many numbers each, shifted as word k says. At most so much.
+pub fn room(line: &[u8], k: usize, size: usize, most: usize) -> usize
+    requires { ⌜ (k < 100) × (size < 256) ⌝ }
+    ensures { λ r. ⌜ r ≡ min (roomOf size k (now (line .entry))) most ⌝ }
+{
+    let whole = size * (number(line, k + 1) as usize);
+    base::least(shift(letter(line, k), whole), most)
+}
+
+// The place among a task's numbers of the field whose name starts with a letter; past any list where there is none.
+pub fn field(letter: u8) -> usize
+    ensures { λ r. ⌜ (r ≡ fieldOf letter) × (r ≤ mostNumbers) ⌝ }
+{
+    if letter == b'k' {
+        return 0;
+    }
+    if letter == b'p' {
+        return 1;
+    }
+    if letter == b'n' {
+        return 2;
+    }
+    if letter == b'T' {
+        return 3;
+    }
+    if letter == b'D' {
+        return 4;
+    }
+    if letter == b'C' {
+        return 5;
+    }
+    if letter == b'Y' {
+        return 6;
+    }
+    MOST_NUMBERS
+}
+
 // ---- good lists
 
 fn good_task(side: u32, k: u8) -> Task
-    requires { ⌜ k < 32 ⌝ }
+    requires { ⌜ k < goodTasks ⌝ }
     ensures { λ r. ⌜ r ≡ goodTask side k ⌝ }
 {
     if side == 0 {
@@ -99,11 +167,11 @@ fn good_task(side: u32, k: u8) -> Task
     }
 }
 
-// 32 tasks that break no rule, whose numbers need both their bytes where there are two.
-pub fn good_list(side: u32) -> [u32; 224]
+// Tasks that break no rule, whose numbers need both their bytes where there are two.
+pub fn good_list(side: u32) -> [u32; MOST_NUMBERS]
     ensures { λ r. ⌜ r ≡ goodList side ⌝ }
 {
-    let mut list = [0u32; 224];
+    let mut list = [0u32; MOST_NUMBERS];
     let mut k: usize = 0;
     while k < GOOD_TASKS {
         let at = LIST_SIZE * k;
@@ -152,22 +220,22 @@ pub fn damage(bytes: &mut [u8], line: &[u8])
 // ---- lent memory
 
 // What stands in lent memory before.
-pub fn no_numbers() -> [u32; 224]
+pub fn no_numbers() -> [u32; MOST_NUMBERS]
     ensures { λ r. ⌜ r ≡ noNumbers ⌝ }
 {
-    [3000000000; 224]
+    [3000000000; MOST_NUMBERS]
 }
 
-pub fn no_bytes() -> [u8; 513]
+pub fn no_bytes() -> [u8; MOST_BYTES]
     ensures { λ r. ⌜ r ≡ noBytes ⌝ }
 {
-    [195; 513]
+    [195; MOST_BYTES]
 }
 
-pub fn no_block() -> [u8; 512]
+pub fn no_block() -> [u8; BLOCK_SIZE]
     ensures { λ r. ⌜ r ≡ noBlock ⌝ }
 {
-    [195; 512]
+    [195; BLOCK_SIZE]
 }
 
 // Whether two lists are the same from a place on, as far as both go.

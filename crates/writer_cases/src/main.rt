@@ -2,26 +2,28 @@
 // A line is printed as it stands; after a try come the four numbers of the answer, what became of the lent block, and what an accepted one holds.
 // The lines to be printed stand in stdout, worked out from the paper.
 ghost use Prim.Native.Nat.{_<_};
+use block::LIST_SIZE;
 use libc::STDIN_FILENO;
 use tries::MODE;
 use tries::MOST_BYTES;
 use tries::MOST_NUMBERS;
 use tries::number;
 
-// Puts what word k + 2 of a line says at the place that its word k says.
+// Puts what word k + 4 of a line says where its word k names a field and its word k + 2 a task.
 fn put_number(list: &mut [u32], line: &[u8], k: usize)
     requires { ⌜ k < 100 ⌝ }
 {
-    let at = number(line, k) as usize;
+    let task = tries::length_of(line, k + 2, MOST_NUMBERS);
+    let at = LIST_SIZE * task + tries::field(tries::letter(line, k));
     if at < list.len() {
-        list[at] = number(line, k + 2);
+        list[at] = number(line, k + 4);
     }
 }
 
 // The list that a line's writing is of.
-fn list_of(line: &[u8]) -> [u32; 224] {
+fn list_of(line: &[u8]) -> [u32; MOST_NUMBERS] {
     let mut list = tries::good_list(number(line, 3));
-    put_number(&mut list, line, 9);
+    put_number(&mut list, line, 8);
     put_number(&mut list, line, 13);
     list
 }
@@ -46,7 +48,7 @@ fn write(line: &[u8]) {
     let list = list_of(line);
     let mut bytes = tries::no_bytes();
     let before = tries::no_bytes();
-    let size = tries::length_of(line, 1, MOST_NUMBERS);
+    let size = tries::room(line, 0, LIST_SIZE, MOST_NUMBERS);
     let room = tries::length_of(line, 7, MOST_BYTES);
     tell_write(
         number(line, 5),
@@ -60,8 +62,9 @@ fn write(line: &[u8]) {
 fn try_line(line: &[u8]) {
     says::say(line);
     if line.len() > 0 {
-        if line[0] == b'w' {
-            write(line);
+        match line[0] {
+            b'w' | b's' | b'e' => write(line),
+            _ => {}
         }
     }
     says::say(b"\n");

@@ -1,7 +1,7 @@
 -- `good_list` gives a good list. Invariant: the list holds the first k tasks, and zeros behind them.
 use Rattle.numbers.proofs.Numbers.{list-more}
 use Rattle.tries.proofs.Tries.{list-whole}
-use Rattle.tries.specs.Tries.{goodTask, goodList}
+use Rattle.tries.specs.Tries.{goodTasks, mostNumbers, goodTask, goodList}
 use Rattle.base.specs.Lists.{upTo}
 use Rattle.block.specs.Block.{listOf}
 use Rattle.block.specs.Record.{numbersOf}
@@ -17,10 +17,10 @@ use Rattle.tries.proofs.good_list.Statement.{statement}
 use Rattle.tries.proofs.good_list.Tie as tie
 
 abbrev Inv-loop : tie.InvT-loop
-Inv-loop side list₀ k₀ list k = (k ≤ 32) × (length list₀ ≡ 224) × (length list ≡ 224) × (list ≡ listOf (upTo (goodTask side) k) ++ drop (listSize * k) list₀)
+Inv-loop side list₀ k₀ list k = (k ≤ goodTasks) × (length list₀ ≡ mostNumbers) × (length list ≡ mostNumbers) × (list ≡ listOf (upTo (goodTask side) k) ++ drop (listSize * k) list₀)
 
 abbrev μ-loop : tie.MeasureT-loop
-μ-loop side list₀ k₀ list k = 32 - k
+μ-loop side list₀ k₀ list k = goodTasks - k
 
 loop-holds : tie.Need-loop-holds Inv-loop μ-loop
 unfolding upTo flatMap
@@ -30,13 +30,13 @@ loop-again : tie.Need-loop-again Inv-loop μ-loop
 loop-again c =
     let l = c .before .before .before .before .before .loop in
     let a = c .before .before .before .before .before .before .args in
-    (search needs, search needs, same-len-mid (7 * l .k) (7 * l .k + 7 - 7 * l .k) (l .list) (c .before .put-numbers .last .0) (c .before .put-numbers .kept .0) ∙ l .inv .2, list-more (goodTask (a .side)) (l .list) _ _ (l .k) (l .inv .3) (c .before .put-numbers .ensures ∙ ap numbersOf (c .before .before .good-task .ensures)))
+    (search needs, search needs, same-len-mid (listSize * l .k) (listSize * l .k + listSize - listSize * l .k) (l .list) (c .before .put-numbers .last .0) (c .before .put-numbers .kept .0) ∙ l .inv .2, list-more (goodTask (a .side)) (l .list) _ _ (l .k) (l .inv .3) (c .before .put-numbers .ensures ∙ ap numbersOf (c .before .before .good-task .ensures)))
 
 returns : tie.Need-returns Inv-loop μ-loop
 unfolding goodList
 returns c =
     let l = c .before .loop in
-    list-whole (goodTask (c .before .before .args .side)) (l .list) _ (l .k) 32 (omega arith) (omega arith) (l .inv .3)
+    list-whole (goodTask (c .before .before .args .side)) (l .list) _ (l .k) goodTasks (omega arith) (omega arith) (l .inv .3)
 
 pub good-list-spec : {M : Type 1} → statement M
 good-list-spec =
