@@ -1,6 +1,7 @@
-/* Times the proved analysis beside the plain one on the same pairs, in turn, and compares what they answer and report.
+/* Times the proved library beside the plain version on the same pairs or blocks, in turn, and compares what they answer and fill.
  *
- *   bench            a line for each workload: its name, pairs, and the best nanoseconds a pair of plain C and of the proved code
+ *   bench            a line for each workload: its name, pairs (or blocks), and the best nanoseconds for one of plain C and of
+ *                    the proved code
  *   bench count      a line for each workload: its name, pairs, and the demands that plain C works out for a pair, mean and most
  *                    (needs the build of plain.c that counts)
  *
@@ -15,10 +16,10 @@ int clock_gettime(int clock, struct timespec *now);
 int snprintf(char *to, size_t size, const char *format, ...);
 void pad(void);
 
-enum { most = 30, rounds = 9, pairs_most = 200, enough = 600000000 };
+enum { rounds = 40, pairs_most = 200, blocks = 100, enough = 600000000 };
 
 struct pair {
-    uint8_t old[512], new[512];
+    uint8_t old[block_len], new[block_len];
 };
 
 struct task {
@@ -50,13 +51,19 @@ static int fail(const char *words, const char *name) {
 
 /* Writes one side; 0 where the writer refuses. */
 static int put(uint8_t *block, uint32_t side, const struct task *tasks, uint32_t n) {
-    uint32_t list[7 * most];
+    uint32_t list[list_room] = {0};
     for (uint32_t j = 0; j < n; j++) {
         const struct task *x = &tasks[j];
-        uint32_t seven[7] = {x->kind, x->priority, x->number, x->period, x->deadline, x->execution, x->offset};
-        for (uint32_t k = 0; k < 7; k++) list[7 * j + k] = seven[k];
+        uint32_t *entry = list + task_numbers * j;
+        entry[VISNUMAR_KIND] = x->kind;
+        entry[VISNUMAR_PRIORITY] = x->priority;
+        entry[VISNUMAR_NUMBER] = x->number;
+        entry[VISNUMAR_PERIOD] = x->period;
+        entry[VISNUMAR_DEADLINE] = x->deadline;
+        entry[VISNUMAR_EXECUTION] = x->execution;
+        entry[VISNUMAR_OFFSET] = x->offset;
     }
-    return visnumar_write(side, (uint16_t)(side + 1), list, 7 * n, block, 512).code == 0;
+    return visnumar_write(side, (uint16_t)(side + 1), list, task_numbers * n, block, block_len).code == 0;
 }
 
 static int add(const struct task *olds, uint32_t n, const struct task *news, uint32_t k) {
@@ -104,7 +111,7 @@ static void rank_all(struct task *olds, uint32_t n, struct task *news, uint32_t 
 /* Random pairs that are accepted, or late, until there are `wanted` of them. */
 static void random_pairs(int wanted, uint32_t n, uint32_t k, uint32_t aborted, int late, uint32_t longest) {
     struct task olds[most], news[most];
-    uint32_t report[180];
+    uint32_t report[report_room];
     while (count < wanted) {
         uint32_t load = late ? 600 + below(350) : 300 + below(400);
         side_of(olds, n, VISNUMAR_KIND_COMPLETED, load, longest);
@@ -113,7 +120,7 @@ static void random_pairs(int wanted, uint32_t n, uint32_t k, uint32_t aborted, i
         rank_all(olds, n, news, k);
         if (!add(olds, n, news, k)) continue;
         const struct pair *p = &pairs[count - 1];
-        uint32_t code = plain_analyse(p->old, 512, p->new, 512, report, 180).code;
+        uint32_t code = plain_analyse(p->old, block_len, p->new, block_len, report, report_room).code;
         if (late ? code != VISNUMAR_OLD_LATE && code != VISNUMAR_NEW_LATE : code != VISNUMAR_DONE) count--;
     }
 }
@@ -168,60 +175,166 @@ static int hostile(int which) {
 static int load(const char *name, uint8_t *block) {
     FILE *file = fopen(name, "rb");
     if (file == NULL) return 0;
-    size_t got = fread(block, 1, 512, file);
+    size_t got = fread(block, 1, block_len, file);
     fclose(file);
-    return got == 512;
+    return got == block_len;
 }
 
+/* The nanoseconds that this process has run: what runs beside it does not count. */
 static long now(void) {
     struct timespec t;
-    clock_gettime(1, &t);
+    clock_gettime(2, &t);
     return t.seconds * 1000000000 + t.nanoseconds;
 }
 
 typedef struct visnumar_answer analysis(const uint8_t *, size_t, const uint8_t *, size_t, uint32_t *, size_t);
+typedef struct visnumar_answer reader(const uint8_t *, size_t, uint32_t, uint32_t *, size_t);
+typedef struct visnumar_answer writer(uint32_t, uint16_t, const uint32_t *, size_t, uint8_t *, size_t);
 
-static long timed(analysis *f, long turns) {
-    uint32_t report[180] = {0};
+static long time_analysis(analysis *f, long turns) {
+    uint32_t report[report_room] = {0};
     long start = now();
     for (long turn = 0; turn < turns; turn++) {
-        for (int j = 0; j < count; j++) f(pairs[j].old, 512, pairs[j].new, 512, report, 180);
+        for (int j = 0; j < count; j++) f(pairs[j].old, block_len, pairs[j].new, block_len, report, report_room);
     }
     return now() - start;
 }
 
-/* Compares the two on every pair, then times them in turn. The pairs are dropped. */
+/* The blocks of the pairs, old and new by turns, and their lists. */
+static uint32_t lists[blocks][list_room];
+
+static const uint8_t *block(int j) {
+    return j % 2 == 0 ? pairs[j / 2].old : pairs[j / 2].new;
+}
+
+static long time_reader(reader *f, long turns) {
+    uint32_t list[list_room] = {0};
+    long start = now();
+    for (long turn = 0; turn < turns; turn++) {
+        for (int j = 0; j < blocks; j++) f(block(j), block_len, j % 2, list, list_room);
+    }
+    return now() - start;
+}
+
+static long time_writer(writer *f, long turns) {
+    uint8_t made[block_len] = {0};
+    long start = now();
+    for (long turn = 0; turn < turns; turn++) {
+        for (int j = 0; j < blocks; j++) f(j % 2, (uint16_t)(j % 2 + 1), lists[j], list_room, made, block_len);
+    }
+    return now() - start;
+}
+
+/* Some turns of one side. */
+typedef long timing(long turns);
+
+static long plain_analyses(long turns) { return time_analysis(plain_analyse, turns); }
+static long proved_analyses(long turns) { return time_analysis(visnumar_analyse, turns); }
+static long plain_reads(long turns) { return time_reader(plain_read, turns); }
+static long proved_reads(long turns) { return time_reader(visnumar_read, turns); }
+static long plain_writes(long turns) { return time_writer(plain_write, turns); }
+static long proved_writes(long turns) { return time_writer(visnumar_write, turns); }
+
+/* Times both sides in turn; a turn is `items` of what is timed. */
+static void measure(const char *name, int items, timing *plain_turns, timing *proved_turns) {
+    long turns = 1 + 1000000 / (1 + plain_turns(1)); /* a millisecond or more: short, so that some rounds run undisturbed */
+    long plain = 0, proved = 0;
+    long start = now();
+    for (int round = 0; round < rounds && (round < 2 || now() - start < enough); round++) {
+        long p = plain_turns(turns), q = proved_turns(turns);
+        if (round == 0 || p < plain) plain = p;
+        if (round == 0 || q < proved) proved = q;
+    }
+    long each = turns * items;
+    printf("%s\t%d\t%ld.%ld\t%ld.%ld\n", name, items, plain / each, plain * 10 / each % 10, proved / each, proved * 10 / each % 10);
+    fflush(stdout);
+}
+
+static int same(struct visnumar_answer a, struct visnumar_answer b) {
+    return a.code == b.code && a.side == b.side && a.record == b.record && a.detail == b.detail;
+}
+
+/* Compares the two on every pair, then times them. The pairs are dropped. */
 static int work(const char *name) {
     if (count == 0) return fail("no pair could be made", name);
     unsigned long sum = 0, largest = 0;
     for (int j = 0; j < count; j++) {
-        uint32_t one[180], two[180];
-        for (int i = 0; i < 180; i++) one[i] = two[i] = 7;
+        uint32_t one[report_room], two[report_room];
+        for (int i = 0; i < report_room; i++) one[i] = two[i] = 7;
         plain_evaluations = 0;
-        struct visnumar_answer a = plain_analyse(pairs[j].old, 512, pairs[j].new, 512, one, 180);
+        struct visnumar_answer a = plain_analyse(pairs[j].old, block_len, pairs[j].new, block_len, one, report_room);
         sum += plain_evaluations;
         if (plain_evaluations > largest) largest = plain_evaluations;
-        struct visnumar_answer b = visnumar_analyse(pairs[j].old, 512, pairs[j].new, 512, two, 180);
-        if (a.code != b.code || a.side != b.side || a.record != b.record || a.detail != b.detail) return fail("answers differ", name);
-        for (int i = 0; i < 180; i++) {
+        struct visnumar_answer b = visnumar_analyse(pairs[j].old, block_len, pairs[j].new, block_len, two, report_room);
+        if (!same(a, b)) return fail("answers differ", name);
+        for (int i = 0; i < report_room; i++) {
             if (one[i] != two[i]) return fail("reports differ", name);
         }
     }
     if (counting) {
         printf("%s\t%d\t%lu\t%lu\n", name, count, sum / (unsigned long)count, largest);
+        fflush(stdout);
     } else {
-        long turns = 1 + 4000000 / (1 + timed(plain_analyse, 1));
-        long plain = 0, proved = 0;
-        long start = now();
-        for (int round = 0; round < rounds && (round < 2 || now() - start < enough); round++) {
-            long p = timed(plain_analyse, turns), q = timed(visnumar_analyse, turns);
-            if (round == 0 || p < plain) plain = p;
-            if (round == 0 || q < proved) proved = q;
-        }
-        long each = turns * count;
-        printf("%s\t%d\t%ld.%ld\t%ld.%ld\n", name, count, plain / each, plain * 10 / each % 10, proved / each, proved * 10 / each % 10);
+        measure(name, count, plain_analyses, proved_analyses);
     }
-    fflush(stdout);
+    count = 0;
+    return 0;
+}
+
+/* Reads a block both ways; 0 where answers or lists differ. */
+static int same_reading(const uint8_t *from, uint32_t side, uint32_t *list) {
+    uint32_t other[list_room];
+    for (int i = 0; i < list_room; i++) list[i] = other[i] = 7;
+    if (!same(plain_read(from, block_len, side, other, list_room), visnumar_read(from, block_len, side, list, list_room))) return 0;
+    for (int i = 0; i < list_room; i++) {
+        if (list[i] != other[i]) return 0;
+    }
+    return 1;
+}
+
+/* Gives a block the check that its other bytes ask for. */
+static void mend(uint8_t *from) {
+    uint32_t check = 0;
+    for (int i = 0; i < check_at; i++) check += (uint32_t)from[i] << 8 * (i % 4);
+    for (int i = 0; i < 4; i++) from[check_at + i] = (uint8_t)(check >> 8 * i);
+}
+
+/* Writes a list both ways; 0 where answers or blocks differ. */
+static int same_writing(uint32_t side, const uint32_t *list) {
+    uint8_t one[block_len], other[block_len];
+    for (int i = 0; i < block_len; i++) one[i] = other[i] = 7;
+    if (!same(plain_write(side, 1, list, list_room, one, block_len), visnumar_write(side, 1, list, list_room, other, block_len))) return 0;
+    for (int i = 0; i < block_len; i++) {
+        if (one[i] != other[i]) return 0;
+    }
+    return 1;
+}
+
+/* Compares reading and writing on every block and list, and on some that are damaged, then times both. The pairs are dropped. */
+static int read_and_write(const char *reads, const char *writes) {
+    uint32_t list[list_room];
+    if (2 * count != blocks) return fail("not as many blocks", reads);
+    for (int j = 0; j < blocks; j++) {
+        uint8_t damaged[block_len];
+        if (!same_reading(block(j), j % 2, lists[j])) return fail("readings differ", reads);
+        for (int i = 0; i < block_len; i++) damaged[i] = block(j)[i];
+        for (int i = 0; i < block_len; i++) {
+            damaged[i] ^= 1;
+            if (j % 4 > 0 && i < check_at) mend(damaged);
+            if (!same_reading(damaged, j % 2, list)) return fail("readings of a damaged block differ", reads);
+            damaged[i] ^= 1;
+            mend(damaged);
+        }
+        for (int i = 0; i < list_room; i++) list[i] = lists[j][i];
+        for (int i = 0; i < list_room; i++) {
+            list[i] += j % 3 == 0 ? 65536 : 1;
+            if (!same_writing(j % 2, list)) return fail("writings of a damaged list differ", writes);
+            list[i] = lists[j][i];
+        }
+        if (!same_writing(j % 2, list)) return fail("writings differ", writes);
+    }
+    measure(reads, blocks, plain_reads, proved_reads);
+    measure(writes, blocks, plain_writes, proved_writes);
     count = 0;
     return 0;
 }
@@ -257,6 +370,11 @@ int main(int words, char **word) {
     static const char *const tiny[] = {"tiny 0 + 0", "tiny 1 + 1, seed 11", "tiny 2 + 2, seed 12", "tiny 3 + 3, seed 13",
                                        "tiny 4 + 4, seed 14", "tiny 5 + 5, seed 15"};
     for (uint32_t n = 0; n <= 5; n++) bad |= random_work(tiny[n], 10 + n, n == 0 ? 1 : 50, n, n, 0, 0, 1000);
+    if (!counting) {
+        state = 5;
+        random_pairs(blocks / 2, most, most, 6, 0, 65535);
+        bad |= read_and_write("read a block of 30 tasks, seed 5", "write a block of 30 tasks, seed 5");
+    }
     if (counting) {
         static const uint32_t sizes[] = {5, 10, 15, 20, 25, 30}, limits[] = {1000, 4000, 16000, 65535};
         char name[64];

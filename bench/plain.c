@@ -1,7 +1,8 @@
-/* The same job in plain C, written for speed: two blocks and a report to an answer. It has the savings that the proved code
- * has: the chain; phases backwards from where the windows settle, each search from where the last one ended; the jump over
- * phases where the old part does not grow; one evaluation against the worst so far; forwards only for the first late phase;
- * the tasks above gathered once a row, and no search for a completed task with none above it. It divides as C divides, in 32 bits, which is enough for every number here.
+/* The same jobs in plain C, written for speed. Reading and writing look at each record once and compare records two by two, as
+ * the proved code does. The analysis has the savings that the proved code has: the chain; phases backwards from where the
+ * windows settle, each search from where the last one ended; the jump over phases where the old part does not grow; one
+ * evaluation against the worst so far; forwards only for the first late phase; the tasks above gathered once a row, and no
+ * search for a completed task with none above it. It divides as C divides, in 32 bits, which is enough for every number here.
  *
  * With -DCOUNT it counts how often a demand is worked out, which is as often as in the proved code. Without, the counter stays
  * 0 and costs nothing. */
@@ -14,7 +15,7 @@ unsigned long plain_evaluations = 0;
 #define COUNTED ((void)0)
 #endif
 
-enum { completed = 0, aborted = 1, entering = 2, most = 30 };
+enum { completed = VISNUMAR_KIND_COMPLETED, aborted = VISNUMAR_KIND_ABORTED, entering = VISNUMAR_KIND_NEW };
 
 struct task {
     uint32_t kind, rank, period, deadline, execution, offset;
@@ -43,42 +44,141 @@ static struct visnumar_answer say(uint32_t code, uint32_t side, uint32_t record,
     return answer;
 }
 
-/* Codes 1 to 7, and the table where none is given. */
-static struct visnumar_answer load(const uint8_t *block, size_t len, uint32_t side, struct table *table) {
-    if (len != 512) return say(1, side, 0, 0);
+/* The blocks. */
+
+static inline const uint8_t *record_of(const uint8_t *block, uint32_t k) {
+    return block + head_len + record_len * k;
+}
+
+static inline uint32_t sum(const uint8_t *block) {
     uint32_t check = 0;
-    for (uint32_t k = 0; k < 127; k++) check += word(block + 4 * k);
-    if (check != word(block + 508)) return say(2, side, 0, 0);
-    if (block[0] != 0x4D || block[1] != 0x54) return say(3, side, 0, 0);
-    uint32_t n = block[3];
-    if (block[2] != side || n > most || half(block + 6) != 0) return say(4, side, 0, 0);
-    for (uint32_t k = 0; k < n; k++) {
-        const uint8_t *record = block + 8 + 16 * k;
-        struct task *x = &table->tasks[k];
-        x->kind = record[0];
-        x->rank = 2 * (uint32_t)record[1] + side;
-        x->period = half(record + 4);
-        x->deadline = half(record + 6);
-        x->execution = half(record + 8);
-        x->offset = half(record + 10);
-        int right = (side == 0 ? x->kind < entering : x->kind == entering) && x->period >= 1 && x->execution >= 1
-            && x->execution <= x->deadline && x->deadline <= x->period && (side == 1 || x->offset == 0)
-            && word(record + 12) == 0;
-        if (!right) return say(5, side, k, 0);
-    }
+    for (uint32_t k = 0; k < check_at; k += 4) check += word(block + k);
+    return check;
+}
+
+/* Codes 1 to 4. The side is 2 where the wanted one is bad. */
+static inline struct visnumar_answer judge_head(const uint8_t *block, size_t len, uint32_t side) {
+    if (len != block_len) return say(1, side, 0, 0);
+    if (sum(block) != word(block + check_at)) return say(2, side, 0, 0);
+    if (block[0] != mark_first || block[1] != mark_second) return say(3, side, 0, 0);
+    if (side > 1 || block[2] != side || block[3] > most || half(block + 6) != 0) return say(4, side, 0, 0);
+    return say(0, 2, 0, 0);
+}
+
+/* The rules of a task. */
+static inline int keeps(uint32_t side, uint32_t kind, uint32_t period, uint32_t deadline, uint32_t execution, uint32_t offset) {
+    return (side == 0 ? kind < entering : kind == entering) && period >= 1 && execution >= 1 && execution <= deadline
+        && deadline <= period && (side == 1 || offset == 0);
+}
+
+static inline int right(const uint8_t *record, uint32_t side) {
+    return keeps(side, record[at_kind], half(record + at_period), half(record + at_deadline), half(record + at_execution),
+                 half(record + at_offset)) && word(record + at_zeros) == 0;
+}
+
+/* The first record that bears a number or priority of an earlier one; 0 where there is none. */
+static inline uint32_t doubled(const uint8_t *block, uint32_t n) {
     for (uint32_t k = 1; k < n; k++) {
-        uint32_t number = half(block + 8 + 16 * k + 2);
-        uint32_t priority = block[8 + 16 * k + 1];
+        uint32_t number = half(record_of(block, k) + at_number);
+        uint32_t priority = record_of(block, k)[at_priority];
         for (uint32_t j = 0; j < k; j++) {
-            const uint8_t *earlier = block + 8 + 16 * j;
-            if (half(earlier + 2) == number || earlier[1] == priority) return say(6, side, k, 0);
+            const uint8_t *earlier = record_of(block, j);
+            if (half(earlier + at_number) == number || earlier[at_priority] == priority) return k;
         }
     }
-    uint32_t room = 0;
-    for (uint32_t k = 8 + 16 * n; k < 508; k += 4) room |= word(block + k);
+    return 0;
+}
+
+/* Codes 6 and 7. */
+static inline struct visnumar_answer judge_rest(const uint8_t *block, uint32_t side) {
+    uint32_t n = block[3], k = doubled(block, n), room = 0;
+    if (k != 0) return say(6, side, k, 0);
+    for (uint32_t at = head_len + record_len * n; at < check_at; at += 4) room |= word(block + at);
     if (room != 0) return say(7, side, 0, 0);
-    table->count = n;
     return say(0, 2, 0, 0);
+}
+
+struct visnumar_answer plain_read(const uint8_t *block, size_t len, uint32_t side, uint32_t *list, size_t list_len) {
+    if (side > 1) side = 2;
+    struct visnumar_answer answer = judge_head(block, len, side);
+    if (answer.code != 0) return answer;
+    uint32_t n = block[3];
+    for (uint32_t k = 0; k < n; k++) {
+        if (!right(record_of(block, k), side)) return say(5, side, k, 0);
+    }
+    answer = judge_rest(block, side);
+    if (answer.code != 0) return answer;
+    if (list_len < task_numbers * n) return say(8, 2, 0, 0);
+    for (uint32_t k = 0; k < n; k++) {
+        const uint8_t *record = record_of(block, k);
+        uint32_t *entry = list + task_numbers * k;
+        entry[VISNUMAR_KIND] = record[at_kind];
+        entry[VISNUMAR_PRIORITY] = record[at_priority];
+        entry[VISNUMAR_NUMBER] = half(record + at_number);
+        entry[VISNUMAR_PERIOD] = half(record + at_period);
+        entry[VISNUMAR_DEADLINE] = half(record + at_deadline);
+        entry[VISNUMAR_EXECUTION] = half(record + at_execution);
+        entry[VISNUMAR_OFFSET] = half(record + at_offset);
+    }
+    return say(0, side, n, half(block + 4));
+}
+
+static inline void put_half(uint8_t *at, uint32_t value) {
+    at[0] = (uint8_t)value;
+    at[1] = (uint8_t)(value >> 8);
+}
+
+struct visnumar_answer plain_write(uint32_t side, uint16_t mode, const uint32_t *list, size_t list_len, uint8_t *block, size_t len) {
+    if (side > 1) side = 2;
+    if (len != block_len) return say(1, side, 0, 0);
+    if (list_len % task_numbers != 0) return say(11, 2, 0, 0);
+    if (side > 1 || list_len / task_numbers > most) return say(4, side, 0, 0);
+    uint8_t made[block_len] = {mark_first, mark_second, (uint8_t)side, (uint8_t)(list_len / task_numbers)};
+    put_half(made + 4, mode);
+    for (uint32_t k = 0; k < made[3]; k++) {
+        const uint32_t *x = list + task_numbers * k;
+        uint8_t *record = made + head_len + record_len * k;
+        /* C, D and T keep the rules, so that T fits where the others are at most T. */
+        if (x[VISNUMAR_PRIORITY] > 255 || (x[VISNUMAR_NUMBER] | x[VISNUMAR_PERIOD] | x[VISNUMAR_OFFSET]) > 65535
+            || !keeps(side, x[VISNUMAR_KIND], x[VISNUMAR_PERIOD], x[VISNUMAR_DEADLINE], x[VISNUMAR_EXECUTION], x[VISNUMAR_OFFSET])) {
+            return say(5, side, k, 0);
+        }
+        record[at_kind] = (uint8_t)x[VISNUMAR_KIND];
+        record[at_priority] = (uint8_t)x[VISNUMAR_PRIORITY];
+        put_half(record + at_number, x[VISNUMAR_NUMBER]);
+        put_half(record + at_period, x[VISNUMAR_PERIOD]);
+        put_half(record + at_deadline, x[VISNUMAR_DEADLINE]);
+        put_half(record + at_execution, x[VISNUMAR_EXECUTION]);
+        put_half(record + at_offset, x[VISNUMAR_OFFSET]);
+    }
+    uint32_t k = doubled(made, made[3]);
+    if (k != 0) return say(6, side, k, 0);
+    uint32_t check = sum(made);
+    put_half(made + check_at, check);
+    put_half(made + check_at + 2, check >> 16);
+    for (uint32_t at = 0; at < block_len; at++) block[at] = made[at];
+    return say(0, 2, 0, 0);
+}
+
+/* The analysis. */
+
+/* Codes 1 to 7, and the table where none is given. */
+static struct visnumar_answer load(const uint8_t *block, size_t len, uint32_t side, struct table *table) {
+    struct visnumar_answer answer = judge_head(block, len, side);
+    if (answer.code != 0) return answer;
+    table->count = block[3];
+    for (uint32_t k = 0; k < table->count; k++) {
+        const uint8_t *record = record_of(block, k);
+        struct task *x = &table->tasks[k];
+        if (!right(record, side)) return say(5, side, k, 0);
+        x->kind = record[at_kind];
+        x->rank = 2 * (uint32_t)record[at_priority] + side;
+        x->period = half(record + at_period);
+        x->deadline = half(record + at_deadline);
+        x->execution = half(record + at_execution);
+        x->offset = half(record + at_offset);
+    }
+    return judge_rest(block, side);
 }
 
 /* The demand at t, the request coming at x. */
@@ -243,13 +343,13 @@ struct visnumar_answer plain_analyse(const uint8_t *old_block, size_t old_len, c
     answer = load(new_block, new_len, 1, &new);
     if (answer.code != 0) return answer;
     uint32_t n = old.count, k = new.count;
-    if (report_len < 3 * (n + k)) return say(8, 2, 0, 0);
+    if (report_len < row_numbers * (n + k)) return say(8, 2, 0, 0);
 
-    uint32_t rows[180];
+    uint32_t rows[report_room];
     struct term before[most], after[most];
     for (uint32_t i = 0; i < n; i++) {
         const struct task *own = &old.tasks[i];
-        uint32_t c = own->execution, d = own->deadline, *row = rows + 3 * i;
+        uint32_t c = own->execution, d = own->deadline, *row = rows + row_numbers * i;
         uint32_t a = gather(before, &old, own->rank, 1);
         if (own->kind == completed) {
             uint32_t b = gather(after, &new, own->rank, 0);
@@ -266,7 +366,7 @@ struct visnumar_answer plain_analyse(const uint8_t *old_block, size_t old_len, c
     }
     for (uint32_t i = 0; i < k; i++) {
         const struct task *own = &new.tasks[i];
-        uint32_t c = own->execution, d = own->deadline, y = own->offset, *row = rows + 3 * (n + i);
+        uint32_t c = own->execution, d = own->deadline, y = own->offset, *row = rows + row_numbers * (n + i);
         uint32_t b = gather(after, &new, own->rank, 0);
         for (uint32_t j = 0; j < b; j++) {
             before[j] = after[j];
@@ -283,6 +383,6 @@ struct visnumar_answer plain_analyse(const uint8_t *old_block, size_t old_len, c
         row[1] = w;
         row[2] = steady;
     }
-    for (uint32_t j = 0; j < 3 * (n + k); j++) report[j] = rows[j];
+    for (uint32_t j = 0; j < row_numbers * (n + k); j++) report[j] = rows[j];
     return say(0, 2, 0, 0);
 }

@@ -33,9 +33,9 @@ done
 link count "$work/bench.o" "$work/pad16.o" "$work/counted.o"
 bin/run-built "$work/count" count >"$work/counts"
 
-echo "A pair in microseconds, the best over rounds and layouts; the ratio is proved / plain."
+echo "A pair, or a block, in microseconds, the best over rounds and layouts; the ratio is proved / plain."
 awk -F '\t' '
-    BEGIN { printf "%-46s %5s %12s %12s %6s\n", "workload", "pairs", "plain C", "proved", "ratio" }
+    BEGIN { printf "%-46s %5s %12s %12s %6s\n", "workload", "count", "plain C", "proved", "ratio" }
     !($1 in plain) { order[++n] = $1; pairs[$1] = $2; plain[$1] = $3; proved[$1] = $4 }
     { if ($3 < plain[$1]) plain[$1] = $3; if ($4 < proved[$1]) proved[$1] = $4 }
     END {
