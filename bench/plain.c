@@ -138,7 +138,7 @@ struct visnumar_answer plain_write(uint32_t side, uint16_t mode, const uint32_t 
     for (uint32_t k = 0; k < made[3]; k++) {
         const uint32_t *x = list + task_numbers * k;
         uint8_t *record = made + head_len + record_len * k;
-        /* C, D and T keep the rules, so that T fits where the others are at most T. */
+        /* Where the rules hold, C and D are at most T, and fit where T does. */
         if (x[VISNUMAR_PRIORITY] > 255 || (x[VISNUMAR_NUMBER] | x[VISNUMAR_PERIOD] | x[VISNUMAR_OFFSET]) > 65535
             || !keeps(side, x[VISNUMAR_KIND], x[VISNUMAR_PERIOD], x[VISNUMAR_DEADLINE], x[VISNUMAR_EXECUTION], x[VISNUMAR_OFFSET])) {
             return say(5, side, k, 0);
