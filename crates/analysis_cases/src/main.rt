@@ -25,7 +25,7 @@ fn untouched() -> [u32; MOST_ROOM] {
 
 // ---- the lists
 
-// Where the numbers of a task start, and with one word more.
+// Where the numbers of the task that a word is of start: `and` goes on to the next task.
 fn task_by(name: u8, task: usize) -> usize
     requires { ⌜ task ≤ mostNumbers ⌝ }
     ensures { λ r. ⌜ r ≤ mostNumbers ⌝ }
