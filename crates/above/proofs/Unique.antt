@@ -6,6 +6,8 @@ use borrow.Fn.Kinds.{Dens, resT, endedOf}
 use denote.Triple.Clauses.{AtExit}
 use Rattle.above.proofs.rank_of.Reads as rank-of
 use Rattle.above.proofs.rank_of.Kinds as rank-of-kinds
+use Rattle.above.proofs.own_time.Reads as own-time
+use Rattle.above.proofs.own_time.Kinds as own-time-kinds
 use Rattle.above.proofs.roll.Reads as roll
 use Rattle.above.proofs.roll.Kinds as roll-kinds
 use Rattle.above.proofs.gather.Reads as gather
@@ -16,6 +18,10 @@ use Rattle.above.proofs.left.Kinds as left-kinds
 pub rank-of-unique : (κs : Lfts 0) (a : Dens κs rank-of-kinds.ps) (r r′ : resT rank-of-kinds.r κs .Denot) (s s′ : AtExit (endedOf 0 rank-of-kinds.ps rank-of-kinds.r) κs)
     → rank-of.Post κs a r s → rank-of.Post κs a r′ s′ → r ≡ r′
 rank-of-unique κs a r r′ s s′ p q = p ∙ sym q
+
+pub own-time-unique : (κs : Lfts 0) (a : Dens κs own-time-kinds.ps) (r r′ : resT own-time-kinds.r κs .Denot) (s s′ : AtExit (endedOf 0 own-time-kinds.ps own-time-kinds.r) κs)
+    → own-time.Post κs a r s → own-time.Post κs a r′ s′ → r ≡ r′
+own-time-unique κs a r r′ s s′ p q = p .0 ∙ sym (q .0)
 
 pub roll-unique : (κs : Lfts 1) (a : Dens κs roll-kinds.ps) (r r′ : resT roll-kinds.r κs .Denot) (s s′ : AtExit (endedOf 1 roll-kinds.ps roll-kinds.r) κs)
     → roll.Post κs a r s → roll.Post κs a r′ s′ → now (s .0) ≡ now (s′ .0)

@@ -9,6 +9,7 @@ ghost use Rattle.window.specs.Order.{rank};
 ghost use Rattle.window.specs.Demand.{ownTime};
 ghost use Rattle.block.specs.Format.{mostTasks};
 ghost use Rattle.above.specs.Roll.{one, Periodic, Rolled, entered, rollOf, countAbove, placed, termsAbove, leftAbove};
+use block::MOST_TASKS;
 use block::Table;
 use block::Task;
 
@@ -73,10 +74,10 @@ fn enter(nums: &mut [u64], at: usize, x: Task)
 }
 
 // Room for the roll of any table: six numbers a task.
-pub const ROLL_ROOM: usize = 180;
+pub const ROLL_ROOM: usize = 6 * MOST_TASKS;
 
 // Room for the terms of any table: four numbers a task.
-pub const TERM_ROOM: usize = 120;
+pub const TERM_ROOM: usize = 4 * MOST_TASKS;
 
 // The roll of a table.
 pub fn roll(nums: &mut [u64], table: Table)

@@ -13,6 +13,7 @@ ghost use Rattle.rows.specs.Fill.{Told, checkAt, Filled};
 use above::ROLL_ROOM;
 use above::TERM_ROOM;
 use block::Answer;
+use block::MOST_TASKS;
 use block::Table;
 use block::Verdict;
 use row::Judged;
@@ -22,7 +23,7 @@ use row::Row;
 pub const ROW_SIZE: usize = 3;
 
 // Room for the rows of any pair.
-pub const REPORT_ROOM: usize = 180;
+pub const REPORT_ROOM: usize = ROW_SIZE * (MOST_TASKS + MOST_TASKS);
 
 fn place(j: usize) -> u32
     requires { ⌜ j < 4294967296 ⌝ }
