@@ -46,7 +46,7 @@ pub shown-check : (checkOf (1 ∷ 2 ∷ 3 ∷ 4 ∷ 5 ∷ []) ≡ 67305990) × (
 unfolding wordSum
 shown-check = (refl, refl, refl, refl)
 
--- a list has room for seven numbers a task, and the number behind them stays
+-- a list has room for the entries, and the number behind them stays
 pub shown-room : (filled 1 (holds 513 (shownTask ∷ [])) (replicate 6 9) .reply ≡ answer 8 2 0 0) × (filled 1 (holds 513 (shownTask ∷ [])) (replicate 7 9) .reply ≡ answer 0 1 1 513)
     × (filled 1 (holds 513 (shownTask ∷ [])) (replicate 8 9) .list ≡ shownNumbers ++ (9 ∷ []))
 unfolding numbersOf flatMap

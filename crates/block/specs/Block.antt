@@ -136,7 +136,7 @@ loadedOf side b = loaded (readingOf side b)
 
 -- ---- writing: codes 1, 11, 4, 5, 6 in order
 
--- the seven numbers of task k, and the tasks of the first n sevens
+-- the entry of task k, and the tasks of the first n entries
 abbrev pub numbersPart : List ℕ → ℕ → List ℕ
 numbersPart l k = part l (listSize * k) (listSize * k + listSize)
 
@@ -146,8 +146,8 @@ tasksFrom l n = upTo (λ k. taskFrom (numbersPart l k)) n
 abbrev pub tasksOf : List ℕ → List Task
 tasksOf l = tasksFrom l (length l / listSize)
 
-abbrev pub eachSeven : ℕ → List ℕ → ℕ → List Verdict
-eachSeven side l n = upTo (λ k. firstOf (numberChecks side k (numbersPart l k))) n
+abbrev pub eachEntry : ℕ → List ℕ → ℕ → List Verdict
+eachEntry side l n = upTo (λ k. firstOf (numberChecks side k (numbersPart l k))) n
 
 unfoldable pub listHead : ℕ → ℕ → ℕ → List Verdict
 listHead side size room =
@@ -157,7 +157,7 @@ listHead side size room =
     ∷ []
 
 abbrev pub listChecks : ℕ → List ℕ → ℕ → List Verdict
-listChecks side l room = listHead side (length l) room ++ eachSeven side l (length l / listSize) ++ eachDouble side (tasksOf l)
+listChecks side l room = listHead side (length l) room ++ eachEntry side l (length l / listSize) ++ eachDouble side (tasksOf l)
 
 unfoldable pub listVerdict : ℕ → List ℕ → ℕ → Verdict
 listVerdict side l room = firstOf (listChecks side l room)

@@ -10,7 +10,7 @@ use Rattle.block.specs.Answers.{refusal, refuse, firstOf, answerOf}
 use Rattle.block.specs.Checks.{taskChecks, recordChecks, numberChecks, doubleCheck}
 use Rattle.block.specs.Block.{marked, headed, roomCheck, bodyChecks, blockVerdict, listHead, listVerdict}
 
--- ---- a task; its sixteen bytes; its seven numbers
+-- ---- a task; its sixteen bytes; its entry
 
 abbrev pub shownTask : Task
 shownTask = taskBy 2 10 300 1000 900 263 600
@@ -44,7 +44,7 @@ ofTask side k T D C Y = firstOf (taskChecks side 0 (taskBy k 10 300 T D C Y))
 abbrev pub endingIn : List ℕ → Verdict
 endingIn bytes = firstOf (recordChecks 1 0 (2 ∷ 10 ∷ 44 ∷ 1 ∷ 232 ∷ 3 ∷ 132 ∷ 3 ∷ 7 ∷ 1 ∷ 88 ∷ 2 ∷ bytes))
 
--- seven numbers of a new task that is good but for their size
+-- the entry of a new task that is good but for the size of a number
 abbrev pub ofNumbers : ℕ → ℕ → ℕ → ℕ → ℕ → Verdict
 ofNumbers k p n T Y = firstOf (numberChecks 1 0 (k ∷ p ∷ n ∷ T ∷ 900 ∷ 7 ∷ Y ∷ []))
 
@@ -70,8 +70,8 @@ oldRecord k p n = k ∷ p ∷ n ∷ 0 ∷ 232 ∷ 3 ∷ 132 ∷ 3 ∷ 7 ∷ 0 �
 abbrev pub ofBody : List ℕ → List ℕ → List ℕ → List ℕ → Verdict
 ofBody x y z room = firstOf (bodyChecks 0 (replicate 8 0 ++ x ++ y ++ z ++ room) 3)
 
-abbrev pub sevenOf : ℕ → ℕ → ℕ → List ℕ
-sevenOf k p n = k ∷ p ∷ n ∷ 1000 ∷ 900 ∷ 7 ∷ 0 ∷ []
+abbrev pub entryOf : ℕ → ℕ → ℕ → List ℕ
+entryOf k p n = k ∷ p ∷ n ∷ 1000 ∷ 900 ∷ 7 ∷ 0 ∷ []
 
 -- the first so many of a block without tasks and a zero behind it
 abbrev pub ofSize : ℕ → Verdict
@@ -99,7 +99,7 @@ cases =
     ∷ gives (second 1 5 2 6) 0 ∷ gives (second 1 5 1 6) 6 ∷ gives (second 1 5 2 5) 6
     -- the unused room behind one record goes from 24 to 507
     ∷ gives (ofRoom 23 488) 0 ∷ gives (ofRoom 24 487) 7 ∷ gives (ofRoom 507 4) 7 ∷ gives (ofRoom 508 3) 0
-    -- a list: the room of the lent block, sevens, side and count
+    -- a list: the room of the lent block, whole entries, side and count
     ∷ gives (firstOf (listHead 0 210 512)) 0 ∷ gives (firstOf (listHead 1 210 512)) 0 ∷ gives (firstOf (listHead 0 14 511)) 1 ∷ gives (firstOf (listHead 0 14 513)) 1
     ∷ gives (firstOf (listHead 0 13 512)) 11 ∷ gives (firstOf (listHead 0 15 512)) 11 ∷ gives (firstOf (listHead 1 217 512)) 4
     ∷ gives (firstOf (listHead 2 14 512)) 4
@@ -111,9 +111,9 @@ cases =
     -- a block without tasks but for its length
     ∷ gives (ofSize 511) 1 ∷ gives (ofSize 513) 1
     -- each code of a list before the next
-    ∷ gives (listVerdict 2 (sevenOf 0 1 1 ++ (7 ∷ [])) 511) 1 ∷ gives (listVerdict 2 (sevenOf 0 1 1 ++ (7 ∷ [])) 512) 11
-    ∷ gives (listVerdict 2 (sevenOf 3 1 1) 512) 4
-    ∷ gives (listVerdict 0 (sevenOf 0 1 1 ++ sevenOf 0 1 2 ++ sevenOf 2 3 3) 512) 5
-    ∷ gives (listVerdict 0 (sevenOf 0 1 1 ++ sevenOf 0 1 2 ++ sevenOf 0 3 3) 512) 6
-    ∷ gives (listVerdict 0 (sevenOf 0 1 1 ++ sevenOf 0 2 2 ++ sevenOf 0 3 3) 512) 0
+    ∷ gives (listVerdict 2 (entryOf 0 1 1 ++ (7 ∷ [])) 511) 1 ∷ gives (listVerdict 2 (entryOf 0 1 1 ++ (7 ∷ [])) 512) 11
+    ∷ gives (listVerdict 2 (entryOf 3 1 1) 512) 4
+    ∷ gives (listVerdict 0 (entryOf 0 1 1 ++ entryOf 0 1 2 ++ entryOf 2 3 3) 512) 5
+    ∷ gives (listVerdict 0 (entryOf 0 1 1 ++ entryOf 0 1 2 ++ entryOf 0 3 3) 512) 6
+    ∷ gives (listVerdict 0 (entryOf 0 1 1 ++ entryOf 0 2 2 ++ entryOf 0 3 3) 512) 0
     ∷ []

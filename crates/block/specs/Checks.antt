@@ -29,7 +29,7 @@ taskChecks side k x =
 abbrev pub recordChecks : ℕ → ℕ → List ℕ → List Verdict
 recordChecks side k r = taskChecks side k (taskOf r) ++ (refuse (not (allZero (part r zeroPlace recordSize))) (refusal 5 side k) ∷ [])
 
--- those of seven numbers of a list: each fits its field
+-- those of an entry of a list: each number fits its field
 abbrev pub numberChecks : ℕ → ℕ → List ℕ → List Verdict
 numberChecks side k l = refuse (not (fits l)) (refusal 5 side k) ∷ taskChecks side k (taskFrom l)
 

@@ -35,6 +35,6 @@ recordPlace k = headSize + recordSize * k
 abbrev pub zeroPlace : ℕ
 zeroPlace = 12
 
--- a task list has seven numbers a task
+-- an entry, a task of a list, is seven numbers
 abbrev pub listSize : ℕ
 listSize = 7

@@ -1,4 +1,4 @@
--- A record of a block, and the same task as seven numbers of a list. Definitions only.
+-- A record of a block, and the same task as an entry of a list. Definitions only.
 use Prim.Native.Nat.{ℕ, _+_, _*_, _/_, _%_}
 use mathlib.Core.Bool.{Bool, _&&_}
 use mathlib.Core.List.{List, [], _∷_, _++_}
@@ -49,7 +49,7 @@ recordOf x =
     x .kind ∷ x .priority
     ∷ (halfBytes (x .number) ++ halfBytes (x .period) ++ halfBytes (x .deadline) ++ halfBytes (x .execution) ++ halfBytes (x .offset) ++ (0 ∷ 0 ∷ 0 ∷ 0 ∷ []))
 
--- the task that seven numbers say, and the seven numbers of a task
+-- the task that an entry says, and the entry of a task
 unfoldable pub taskFrom : List ℕ → Task
 taskFrom l = record {
   kind = getD l 0 0;

@@ -1,4 +1,4 @@
-// The records of a block, codes 5 to 7, and all seven codes in order. The definitions that the contracts cite stand in the specs of block.
+// The records of a block, codes 5 to 7, and every code of a block in order. The definitions that the contracts cite stand in the specs of block.
 ghost use mathlib.Core.Path.{_≡_};
 ghost use Prim.Native.Nat.{_<_, _≤_};
 ghost use lib.ListN.{length};

@@ -5,13 +5,13 @@ ghost use lib.ListN.{length};
 ghost use Rattle.block.specs.Format.{mostTasks, listSize};
 ghost use Rattle.block.specs.Answers.{firstOf};
 ghost use Rattle.block.specs.Checks.{numberChecks};
-ghost use Rattle.block.specs.Block.{eachSeven, listHead};
+ghost use Rattle.block.specs.Block.{eachEntry, listHead};
 use block::BLOCK_SIZE;
 use block::LIST_SIZE;
 use block::MOST_TASKS;
 use block::Verdict;
 
-fn check_seven(numbers: &[u32], side: u32, k: u32) -> Verdict
+fn check_entry(numbers: &[u32], side: u32, k: u32) -> Verdict
     requires { ⌜ length (now numbers) ≡ listSize ⌝ }
     ensures { λ r. ⌜ r ≡ firstOf (numberChecks side k (now (numbers .entry))) ⌝ }
 {
@@ -21,15 +21,15 @@ fn check_seven(numbers: &[u32], side: u32, k: u32) -> Verdict
     rules::refused(5, side, k)
 }
 
-// The first of the first n sevens that breaks a rule.
-pub fn check_sevens(list: &[u32], side: u32, n: usize) -> Verdict
+// The first of the first n entries that breaks a rule.
+pub fn check_entries(list: &[u32], side: u32, n: usize) -> Verdict
     requires { ⌜ (length (now list) ≡ listSize * n) × (n ≤ mostTasks) ⌝ }
-    ensures { λ r. ⌜ r ≡ firstOf (eachSeven side (now (list .entry)) n) ⌝ }
+    ensures { λ r. ⌜ r ≡ firstOf (eachEntry side (now (list .entry)) n) ⌝ }
 {
     let mut k: usize = 0;
     while k < n {
         let at = LIST_SIZE * k;
-        if let Verdict::Refused(a) = check_seven(&list[at..at + LIST_SIZE], side, k as u32) {
+        if let Verdict::Refused(a) = check_entry(&list[at..at + LIST_SIZE], side, k as u32) {
             return Verdict::Refused(a);
         }
         k += 1;

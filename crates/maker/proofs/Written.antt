@@ -17,16 +17,16 @@ use Rattle.block.specs.Legal.{Small}
 
 -- ---- lengths
 
-pub sixteen : (x : Task) → length (recordOf x) ≡ recordSize
+pub record-long : (x : Task) → length (recordOf x) ≡ recordSize
 unfolding recordOf
-sixteen x = refl
+record-long x = refl
 
-pub eight : (side mode n : ℕ) → length (headOf side mode n) ≡ headSize
+pub head-long : (side mode n : ℕ) → length (headOf side mode n) ≡ headSize
 unfolding headOf
-eight side mode n = refl
+head-long side mode n = refl
 
 records-length : (xs : List Task) → length (flatMap recordOf xs) ≡ recordSize * length xs
-records-length xs = flat-length recordOf recordSize sixteen xs
+records-length xs = flat-length recordOf recordSize record-long xs
 
 pub front-length : (head : List ℕ) (xs : List Task) → length head ≡ headSize → length (head ++ flatMap recordOf xs) ≡ recordPlace (length xs)
 front-length head xs h = simp length-append (omega (arith, records-length xs))
@@ -34,7 +34,7 @@ front-length head xs h = simp length-append (omega (arith, records-length xs))
 pub body-length : (side mode : ℕ) (xs : List Task) → length xs ≤ mostTasks → length (bodyOf side mode xs) ≡ checkPlace
 unfolding bodyOf
 body-length side mode xs h =
-    simp (length-append, length-replicate) (omega (arith, eight side mode (length xs), records-length xs))
+    simp (length-append, length-replicate) (omega (arith, head-long side mode (length xs), records-length xs))
 
 pub block-long : (side mode : ℕ) (xs : List Task) → length xs ≤ mostTasks → length (blockOf side mode xs) ≡ blockSize
 unfolding blockOf
@@ -140,10 +140,10 @@ module _ (side mode : ℕ) (xs : List Task) where
       let room = replicate {A = ℕ} (checkPlace - recordPlace (length xs)) 0 in
       let rest = wordBytes (checkOf (bodyOf side mode xs)) in
       let m : recordPlace k + recordSize - recordPlace k ≡ recordSize = omega arith in
-      let d : recordPlace k ≡ length head + recordSize * k = omega (arith, eight side mode (length xs)) in
+      let d : recordPlace k ≡ length head + recordSize * k = omega (arith, head-long side mode (length xs)) in
       let s : head ++ flatMap recordOf xs ++ room ++ rest ≡ head ++ (flatMap recordOf xs ++ (room ++ rest)) = simp append-assoc in
       rw (m, s, d, drop-append-add head (flatMap recordOf xs ++ (room ++ rest)) (recordSize * k))
-      (flat-part recordOf recordSize sixteen xs (room ++ rest) k noTask l)
+      (flat-part recordOf recordSize record-long xs (room ++ rest) k noTask l)
 
   pub tasks-written : ((k : ℕ) → k < length xs → Small (getD xs k noTask)) → tasksIn (blockOf side mode xs) (length xs) ≡ xs
   tasks-written s =

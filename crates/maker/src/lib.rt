@@ -4,7 +4,7 @@ ghost use Prim.Native.Nat.{_≤_, _*_};
 ghost use lib.ListN.{length};
 ghost use Rattle.block.specs.Format.{mostTasks, listSize};
 ghost use Rattle.block.specs.Answers.{firstOf};
-ghost use Rattle.block.specs.Block.{eachSeven, tasksFrom, blockOf};
+ghost use Rattle.block.specs.Block.{eachEntry, tasksFrom, blockOf};
 use block::BLOCK_SIZE;
 use block::CHECK_PLACE;
 use block::HEAD_SIZE;
@@ -12,9 +12,9 @@ use block::LIST_SIZE;
 use block::RECORD_SIZE;
 use block::Verdict;
 
-// The block of the tasks that a list of n sevens says, every one of which passes.
+// The block of the tasks that a list of n entries says, every one of which passes.
 pub fn block_of(side: u8, mode: u16, list: &[u32], n: usize) -> [u8; 512]
-    requires { ⌜ (length (now list) ≡ listSize * n) × (n ≤ mostTasks) × (firstOf (eachSeven side (now list) n) ≡ Verdict.Passed) ⌝ }
+    requires { ⌜ (length (now list) ≡ listSize * n) × (n ≤ mostTasks) × (firstOf (eachEntry side (now list) n) ≡ Verdict.Passed) ⌝ }
     ensures { λ r. ⌜ r ≡ blockOf side mode (tasksFrom (now (list .entry)) n) ⌝ }
 {
     let mut block = puts::empty_block(side, mode, n as u8);

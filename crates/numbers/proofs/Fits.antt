@@ -1,4 +1,4 @@
--- Seven numbers that fit their fields make a small task, and those of a list that passes do.
+-- An entry whose numbers fit their fields makes a small task, and each of a list that passes does.
 use Prim.Native.Nat.{ℕ, _+_, _*_, _<_}
 use mathlib.Core.Path.{_≡_}
 use mathlib.Core.Bool.{true, not}
@@ -15,7 +15,7 @@ use Rattle.block.specs.Record.{allBelow, fits, taskFrom}
 use Rattle.block.specs.declared.Verdict.the-variants.{Passed}
 use Rattle.block.specs.Answers.{refusal, refuse, firstOf}
 use Rattle.block.specs.Checks.{taskChecks, numberChecks}
-use Rattle.block.specs.Block.{numbersPart, eachSeven}
+use Rattle.block.specs.Block.{numbersPart, eachEntry}
 use Rattle.block.specs.Legal.{Small}
 use Rattle.block.proofs.Verdicts.{refuse-passed, first-at, first-right, each-at}
 
@@ -30,9 +30,9 @@ module _ (l : List ℕ) (fit : fits l ≡ true) (long : length l ≡ listSize) w
       rw (getD-take 5 (drop 2 l) i 0 h, getD-drop 2 l i 0) at (ltb-true (getD (part l 2 7) i 0) 65536 (every-at (λ n. ltb n 65536) (part l 2 7) i 0
       (and-right (allBelow 256 (part l 0 2)) (allBelow 65536 (part l 2 7)) fit) (simp (length-take, length-drop) (omega arith))))
 
-  pub seven-small : Small (taskFrom l)
+  pub entry-small : Small (taskFrom l)
   unfolding taskFrom
-  seven-small = record {
+  entry-small = record {
     kind = byte 0 (omega arith);
     priority = byte 1 (omega arith);
     number = half 0 (omega arith);
@@ -42,20 +42,20 @@ module _ (l : List ℕ) (fit : fits l ≡ true) (long : length l ≡ listSize) w
     offset = half 4 (omega arith);
   }
 
--- ---- the sevens of a list that passes
+-- ---- the entries of a list that passes
 
-module _ (side : ℕ) (l : List ℕ) (n : ℕ) (passed : firstOf (eachSeven side l n) ≡ Passed) where
-  seven-passed : (k : ℕ) → k < n → firstOf (numberChecks side k (numbersPart l k)) ≡ Passed
-  seven-passed k h = each-at (λ k. firstOf (numberChecks side k (numbersPart l k))) n k h passed
+module _ (side : ℕ) (l : List ℕ) (n : ℕ) (passed : firstOf (eachEntry side l n) ≡ Passed) where
+  entry-passed : (k : ℕ) → k < n → firstOf (numberChecks side k (numbersPart l k)) ≡ Passed
+  entry-passed k h = each-at (λ k. firstOf (numberChecks side k (numbersPart l k))) n k h passed
 
-  pub seven-fits : (k : ℕ) → k < n → fits (numbersPart l k) ≡ true
-  seven-fits k h = not-false _ (refuse-passed _ (refusal 5 side k) (first-at (numberChecks side k (numbersPart l k)) (seven-passed k h) 0))
+  pub entry-fits : (k : ℕ) → k < n → fits (numbersPart l k) ≡ true
+  entry-fits k h = not-false _ (refuse-passed _ (refusal 5 side k) (first-at (numberChecks side k (numbersPart l k)) (entry-passed k h) 0))
 
   -- its task passes too
-  pub seven-task : (k : ℕ) → k < n → firstOf (taskChecks side k (taskFrom (numbersPart l k))) ≡ Passed
-  seven-task k h =
-      first-right (refuse (not (fits (numbersPart l k))) (refusal 5 side k) ∷ []) (taskChecks side k (taskFrom (numbersPart l k))) (seven-passed k h)
+  pub entry-task : (k : ℕ) → k < n → firstOf (taskChecks side k (taskFrom (numbersPart l k))) ≡ Passed
+  entry-task k h =
+      first-right (refuse (not (fits (numbersPart l k))) (refusal 5 side k) ∷ []) (taskChecks side k (taskFrom (numbersPart l k))) (entry-passed k h)
 
-  pub sevens-small : length l ≡ listSize * n → (k : ℕ) → k < n → Small (taskFrom (numbersPart l k))
-  sevens-small e k h =
-      seven-small (numbersPart l k) (seven-fits k h) (simp (length-take, length-drop) (omega arith))
+  pub entries-small : length l ≡ listSize * n → (k : ℕ) → k < n → Small (taskFrom (numbersPart l k))
+  entries-small e k h =
+      entry-small (numbersPart l k) (entry-fits k h) (simp (length-take, length-drop) (omega arith))

@@ -13,12 +13,12 @@ use Rattle.block.specs.Format.{listSize}
 use Rattle.block.specs.Record.{numbersOf}
 use Rattle.block.specs.Block.{listOf}
 
-pub seven : (x : Task) → length (numbersOf x) ≡ listSize
+pub entry-long : (x : Task) → length (numbersOf x) ≡ listSize
 unfolding numbersOf
-seven x = refl
+entry-long x = refl
 
 pub list-length : (xs : List Task) → length (listOf xs) ≡ listSize * length xs
-list-length xs = flat-length numbersOf listSize seven xs
+list-length xs = flat-length numbersOf listSize entry-long xs
 
 -- one task more
 pub list-more : (f : ℕ → Task) (l l₀ piece : List ℕ) (k : ℕ) → l ≡ listOf (upTo f k) ++ drop (listSize * k) l₀ → piece ≡ numbersOf (f k)

@@ -1,4 +1,4 @@
-// A task as seven numbers of a list: whether they fit, the task that they say, the numbers of a task. The definitions that the contracts cite stand in the specs of block.
+// A task as an entry of a list: whether its numbers fit, the task that it says, the entry of a task. The definitions that the contracts cite stand in the specs of block.
 ghost use mathlib.Core.Path.{_≡_};
 ghost use mathlib.Core.Bool.{true};
 ghost use lib.ListN.{length};
@@ -29,7 +29,7 @@ pub fn are_fit(numbers: &[u32]) -> bool
     false
 }
 
-// The task of seven numbers that fit.
+// The task of an entry that fits.
 pub fn task_from(numbers: &[u32]) -> Task
     requires { ⌜ (length (now numbers) ≡ listSize) × (fits (now numbers) ≡ true) ⌝ }
     ensures { λ r. ⌜ r ≡ taskFrom (now (numbers .entry)) ⌝ }
@@ -45,12 +45,12 @@ pub fn task_from(numbers: &[u32]) -> Task
     }
 }
 
-// A task's seven numbers, put into their part of a list.
+// A task's entry, put into its part of a list.
 pub fn put_numbers(numbers: &mut [u32], x: Task)
     requires { ⌜ length (now numbers) ≡ listSize ⌝ }
     ensures { λ _. ⌜ now (numbers .exit) ≡ numbersOf x ⌝ }
 {
-    let seven: [u32; 7] = [
+    let entry: [u32; 7] = [
         base::number(x.kind),
         base::number(x.priority),
         base::whole(x.number),
@@ -59,5 +59,5 @@ pub fn put_numbers(numbers: &mut [u32], x: Task)
         base::whole(x.execution),
         base::whole(x.offset),
     ];
-    base::copy_numbers(numbers, &seven);
+    base::copy_numbers(numbers, &entry);
 }

@@ -36,7 +36,7 @@ pub fn load(block: &[u8], side: u32) -> Loaded
     }
 }
 
-// A block into the front of a lent list of numbers, seven a task.
+// A block into the front of a lent list of entries.
 pub fn read(block: &[u8], side: u32, list: &mut [u32]) -> Answer
     ensures { λ r. ⌜ (r ≡ readOf side (now (block .entry)) (now (list .entry)) .reply) × (now (list .exit) ≡ readOf side (now (block .entry)) (now (list .entry)) .list) ⌝ }
 {

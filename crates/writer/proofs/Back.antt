@@ -16,12 +16,12 @@ use Rattle.block.specs.Format.{blockSize, headSize, recordSize, mostTasks, chec
 use Rattle.block.specs.Record.{byteAt, halfAt, wordAt, wordBytes, allZero, taskOf, recordOf, taskFrom, numbersOf, fits}
 use Rattle.block.specs.Answers.{refusal, refuse, firstOf}
 use Rattle.block.specs.Checks.{taskChecks, recordChecks, numberChecks, noTask}
-use Rattle.block.specs.Block.{recordPart, tasksIn, countByte, modeNumber, sideByte, unusedRoom, wordSum, checkOf, marked, headed, headChecks, eachRecord, eachDouble, blockVerdict, holds, readingOf, listOf, numbersPart, tasksOf, eachSeven, listHead, headOf, bodyOf, blockOf, wrote, writeOf}
+use Rattle.block.specs.Block.{recordPart, tasksIn, countByte, modeNumber, sideByte, unusedRoom, wordSum, checkOf, marked, headed, headChecks, eachRecord, eachDouble, blockVerdict, holds, readingOf, listOf, numbersPart, tasksOf, eachEntry, listHead, headOf, bodyOf, blockOf, wrote, writeOf}
 use Rattle.block.specs.Legal.{Small, Bytes}
 use Rattle.block.proofs.Verdicts.{refuse-passed, first-at, first-right, each-at, each-all}
 use Rattle.block.proofs.Heads.{headed-own, head-headed}
 use Rattle.block.proofs.Zeros.{zeros-are}
-use Rattle.numbers.proofs.Numbers.{seven, list-length}
+use Rattle.numbers.proofs.Numbers.{entry-long, list-length}
 use Rattle.maker.proofs.Written.{sum-front}
 use Rattle.writer.proofs.Writes.{write-done}
 use Rattle.block.proofs.Reading.{Held, reading-held, block-head, block-length, block-side, block-count, block-body, block-records, block-doubles, block-task, reading-legal}
@@ -233,7 +233,7 @@ module _ (xs : List Task) where
   numbers-again : (k : ℕ) → k < length xs → numbersPart (listOf xs) k ≡ numbersOf (getD xs k noTask)
   numbers-again k h =
       let w : listSize * k + listSize - listSize * k ≡ listSize = omega arith in
-      rw (w, ← append-nil (listOf xs)) (flat-part numbersOf listSize seven xs [] k noTask h)
+      rw (w, ← append-nil (listOf xs)) (flat-part numbersOf listSize entry-long xs [] k noTask h)
 
   tasks-again : tasksOf (listOf xs) ≡ xs
   tasks-again =
@@ -247,13 +247,13 @@ unfolding firstOf listHead
 list-passes side l n e s f =
     simp (eq-eqb (length l % listSize) 0 (omega arith), le-leb side 1 s, le-leb (length l / listSize) mostTasks (omega arith))
 
-seven-passes : (side k : ℕ) (x : Task) → Small x → firstOf (taskChecks side k x) ≡ Passed → firstOf (numberChecks side k (numbersOf x)) ≡ Passed
+entry-passes : (side k : ℕ) (x : Task) → Small x → firstOf (taskChecks side k x) ≡ Passed → firstOf (numberChecks side k (numbersOf x)) ≡ Passed
 unfolding firstOf
-seven-passes side k x s e = rw (small-fits x s, says-again x) e
+entry-passes side k x s e = rw (small-fits x s, says-again x) e
 
 pub write-read : (side mode : ℕ) (b : List ℕ) (xs : List Task) → Bytes b → readingOf side b ≡ holds mode xs → writeOf side mode (listOf xs) blockSize ≡ wrote b
 write-read side mode b xs bytes e =
-    write-done side mode (listOf xs) blockSize heads (rw (sized xs) sevens) (rw (tasks-again xs) doubles)
+    write-done side mode (listOf xs) blockSize heads (rw (sized xs) entries) (rw (tasks-again xs) doubles)
     ∙ ap wrote (rw (tasks-again xs) (rw (g .mode-is, g .tasks-are) (block-again side b bytes (g .passed))))
   where
     g : Held side b mode xs
@@ -265,8 +265,8 @@ write-read side mode b xs bytes e =
     task-passed : (k : ℕ) → k < length xs → firstOf (taskChecks side k (getD xs k noTask)) ≡ Passed
     task-passed k h = block-task side b (g .passed) xs (g .tasks-are) k h
 
-    sevens : firstOf (eachSeven side (listOf xs) (length xs)) ≡ Passed
-    sevens = each-all (λ k. firstOf (numberChecks side k (numbersPart (listOf xs) k))) (length xs) (λ k h. rw (numbers-again xs k h) (seven-passes side k (getD xs k noTask) (reading-small side mode b xs bytes e k h) (task-passed k h)))
+    entries : firstOf (eachEntry side (listOf xs) (length xs)) ≡ Passed
+    entries = each-all (λ k. firstOf (numberChecks side k (numbersPart (listOf xs) k))) (length xs) (λ k h. rw (numbers-again xs k h) (entry-passes side k (getD xs k noTask) (reading-small side mode b xs bytes e k h) (task-passed k h)))
 
     doubles : firstOf (eachDouble side xs) ≡ Passed
     doubles = subst (λ (zs : List Task). firstOf (eachDouble side zs) ≡ Passed) (sym (g .tasks-are)) (block-doubles side b (g .passed))

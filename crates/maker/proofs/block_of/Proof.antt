@@ -1,6 +1,6 @@
 -- `block_of` gives the block of n tasks. Invariant: the block has its head, the first k records, and zeros behind them.
-use Rattle.maker.proofs.Written.{eight, grown, grown-none, grown-length, grown-more, grown-sealed}
-use Rattle.numbers.proofs.Fits.{seven-fits}
+use Rattle.maker.proofs.Written.{head-long, grown, grown-none, grown-length, grown-more, grown-sealed}
+use Rattle.numbers.proofs.Fits.{entry-fits}
 use Rattle.block.specs.Block.{numbersPart, headOf}
 use Rattle.block.specs.Record.{taskFrom, recordOf, wordBytes}
 use Rattle.block.specs.Format.{blockSize}
@@ -27,12 +27,12 @@ loop-holds c =
     let h = headOf (a .side) (a .mode) (a .n) in
     let f : ℕ → Task = λ k. taskFrom (numbersPart (a .list .now) k) in
     let e = c .empty-block .ensures ∙ grown-none h f in
-    (search needs, ap length e ∙ grown-length h (eight (a .side) (a .mode) (a .n)) f 0 (omega arith), e)
+    (search needs, ap length e ∙ grown-length h (head-long (a .side) (a .mode) (a .n)) f 0 (omega arith), e)
 
 task-from-requires : tie.Need-task-from-requires Inv-loop μ-loop
 task-from-requires c κs =
     let a = c .before .before .before .before .before .args in
-    (simp (length-take, length-drop) (omega arith), seven-fits (a .side) (a .list .now) (a .n) (c .before .before .before .before .before .pre .2) (c .before .before .loop .k) (omega arith))
+    (simp (length-take, length-drop) (omega arith), entry-fits (a .side) (a .list .now) (a .n) (c .before .before .before .before .before .pre .2) (c .before .before .loop .k) (omega arith))
 
 loop-again : tie.Need-loop-again Inv-loop μ-loop
 loop-again c =
@@ -40,8 +40,8 @@ loop-again c =
     let l = c .before .before .before .before .before .before .loop in
     let h = headOf (a .side) (a .mode) (a .n) in
     let f : ℕ → Task = λ k. taskFrom (numbersPart (a .list .now) k) in
-    let e = grown-more h (eight (a .side) (a .mode) (a .n)) f (l .block) _ (l .k) (omega arith) (l .inv .2) (c .before .put-record .ensures ∙ ap recordOf (c .before .before .before .task-from .ensures)) in
-    (search needs, ap length e ∙ grown-length h (eight (a .side) (a .mode) (a .n)) f (l .k + 1) (omega arith), e)
+    let e = grown-more h (head-long (a .side) (a .mode) (a .n)) f (l .block) _ (l .k) (omega arith) (l .inv .2) (c .before .put-record .ensures ∙ ap recordOf (c .before .before .before .task-from .ensures)) in
+    (search needs, ap length e ∙ grown-length h (head-long (a .side) (a .mode) (a .n)) f (l .k + 1) (omega arith), e)
 
 slice-aggregate-check-of : tie.Need-slice-aggregate-check-of Inv-loop μ-loop
 slice-aggregate-check-of c =

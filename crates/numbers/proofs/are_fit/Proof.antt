@@ -1,4 +1,4 @@
--- `are_fit` says whether seven numbers fit their fields.
+-- `are_fit` says whether the numbers of an entry fit their fields.
 use mathlib.Core.Path.{sym, _∙_}
 use borrow.Author.Needs.{needs}
 use Rattle.numbers.proofs.are_fit.Statement.{statement}

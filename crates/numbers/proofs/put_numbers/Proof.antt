@@ -1,4 +1,4 @@
--- `put_numbers` puts a task's seven numbers into their part of a list.
+-- `put_numbers` puts a task's entry into its part of a list.
 use Rattle.block.specs.Record.{numbersOf}
 use Rattle.base.proofs.Lists.{over-same}
 use mathlib.Core.List.{[], _∷_}

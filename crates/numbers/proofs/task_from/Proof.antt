@@ -1,5 +1,5 @@
--- `task_from` gives the task that seven numbers say, where they fit.
-use Rattle.numbers.proofs.Fits.{seven-small}
+-- `task_from` gives the task that an entry says, where it fits.
+use Rattle.numbers.proofs.Fits.{entry-small}
 use Rattle.block.specs.Legal.{Small}
 use Rattle.block.specs.Record.{taskFrom}
 use mathlib.Core.Path.{refl}
@@ -9,7 +9,7 @@ use Rattle.numbers.proofs.task_from.Statement.{statement}
 use Rattle.numbers.proofs.task_from.Tie as tie
 
 small : (c : tie.Start) → Small (taskFrom (c .args .numbers .now))
-small c = seven-small (c .args .numbers .now) (c .pre .1) (c .pre .0)
+small c = entry-small (c .args .numbers .now) (c .pre .1) (c .pre .0)
 
 cast-t4 : tie.Need-cast-t4
 unfolding taskFrom

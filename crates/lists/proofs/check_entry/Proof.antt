@@ -1,11 +1,11 @@
--- `check_seven` gives the first rule that seven numbers break.
+-- `check_entry` gives the first rule that an entry breaks.
 use Rattle.block.specs.Checks.{taskChecks}
 use Rattle.block.specs.Answers.{firstOf}
 use Rattle.block.specs.declared.Task.{Task}
 use mathlib.Core.Path.{sym, ap, _∙_}
 use borrow.Author.Needs.{needs}
-use Rattle.lists.proofs.check_seven.Statement.{statement}
-use Rattle.lists.proofs.check_seven.Tie as tie
+use Rattle.lists.proofs.check_entry.Statement.{statement}
+use Rattle.lists.proofs.check_entry.Tie as tie
 
 task-from-requires : tie.Need-task-from-requires
 task-from-requires c κs =
@@ -21,8 +21,8 @@ unfolding firstOf
 returns-2 c =
     simp (← c .before .before .are-fit .ensures, c .before .if1 .left) (c .refused .ensures)
 
-pub check-seven-spec : {M : Type 1} → statement M
-check-seven-spec =
+pub check-entry-spec : {M : Type 1} → statement M
+check-entry-spec =
     tie.close
     (tie.spec
     (λ c κs. search needs)
