@@ -11,7 +11,7 @@ use Rattle.block.specs.declared.Task.{Task}
 use Rattle.block.specs.declared.Answer.{Answer}
 use Rattle.block.specs.declared.Verdict.{Verdict}
 use Rattle.block.specs.declared.Verdict.the-variants.{Passed, Refused}
-use Rattle.block.specs.Format.{blockSize, checkPlace, listSize, mostTasks}
+use Rattle.block.specs.Format.{blockSize, recordSize, zeroPlace, checkPlace, listSize, mostTasks}
 use Rattle.block.specs.Answers.{refusal, refuse, firstOf}
 use Rattle.block.specs.Checks.{kindOn, taskChecks, recordChecks, borneIn, doubleCheck, noTask}
 use Rattle.block.specs.Record.{wordAt, allZero, taskOf, taskFrom, fits}
@@ -68,7 +68,7 @@ module _ (side : ℕ) where
       (five k (ltb (x .period) (x .deadline)) _ (five k (eqb side 0 && not (eqb (x .offset) 0)) [] coded-none))))
 
   record-coded : (k : ℕ) (r : List ℕ) → Coded (firstOf (recordChecks side k r))
-  record-coded k r = coded-after (taskChecks side k (taskOf r)) _ (task-coded k (taskOf r)) (five k (not (allZero (part r 12 16))) [] coded-none)
+  record-coded k r = coded-after (taskChecks side k (taskOf r)) _ (task-coded k (taskOf r)) (five k (not (allZero (part r zeroPlace recordSize))) [] coded-none)
 
   double : (xs : List Task) (k : ℕ) → Coded (doubleCheck side xs k)
   double xs k = coded-if (borneIn (getD xs k noTask) (take k xs)) (refusal 6 side k) (omega arith)

@@ -9,7 +9,7 @@ use borrow.Author.Tests.{eqb-true, leb-true, not-false}
 use Rattle.base.specs.Lists.{part}
 use Rattle.base.proofs.Lists.{and-left, and-right}
 use Rattle.block.specs.declared.Verdict.the-variants.{Passed, Refused}
-use Rattle.block.specs.Format.{blockSize, mostTasks, checkPlace}
+use Rattle.block.specs.Format.{blockSize, headSize, mostTasks, checkPlace}
 use Rattle.block.specs.Record.{wordAt, allZero}
 use Rattle.block.specs.Answers.{refusal, firstOf}
 use Rattle.block.specs.Block.{checkOf, marked, headed, headChecks, sideByte, countByte}
@@ -61,15 +61,15 @@ module _ (a b c d : Bool) (e : a && b && c && d ≡ true) where
 module _ (side : ℕ) (b : List ℕ) where
   pub headed-side : headed side b ≡ true → side ≤ 1
   unfolding headed
-  headed-side e = leb-true side 1 (first (leb side 1) (eqb (sideByte b) side) (leb (countByte b) mostTasks) (allZero (part b 6 8)) e)
+  headed-side e = leb-true side 1 (first (leb side 1) (eqb (sideByte b) side) (leb (countByte b) mostTasks) (allZero (part b 6 headSize)) e)
 
   pub headed-own : headed side b ≡ true → sideByte b ≡ side
   unfolding headed
-  headed-own e = eqb-true (sideByte b) side (second (leb side 1) (eqb (sideByte b) side) (leb (countByte b) mostTasks) (allZero (part b 6 8)) e)
+  headed-own e = eqb-true (sideByte b) side (second (leb side 1) (eqb (sideByte b) side) (leb (countByte b) mostTasks) (allZero (part b 6 headSize)) e)
 
   pub headed-count : headed side b ≡ true → countByte b ≤ mostTasks
   unfolding headed
-  headed-count e = leb-true (countByte b) mostTasks (third (leb side 1) (eqb (sideByte b) side) (leb (countByte b) mostTasks) (allZero (part b 6 8)) e)
+  headed-count e = leb-true (countByte b) mostTasks (third (leb side 1) (eqb (sideByte b) side) (leb (countByte b) mostTasks) (allZero (part b 6 headSize)) e)
 
   module _ (passed : firstOf (headChecks side b) ≡ Passed) where
     pub head-length : length b ≡ blockSize

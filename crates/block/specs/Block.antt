@@ -11,7 +11,7 @@ use Rattle.block.specs.declared.Loaded.{Loaded}
 use Rattle.block.specs.declared.Answer.{Answer}
 use Rattle.block.specs.declared.Verdict.{Verdict}
 use Rattle.block.specs.declared.Verdict.the-variants.{Passed, Refused}
-use Rattle.block.specs.Format.{blockSize, recordSize, mostTasks, checkPlace, checkWords, markFirst, markSecond, recordPlace, listSize}
+use Rattle.block.specs.Format.{blockSize, headSize, recordSize, mostTasks, checkPlace, checkWords, markFirst, markSecond, recordPlace, listSize}
 use Rattle.block.specs.Record.{byteAt, halfAt, wordAt, halfBytes, wordBytes, allZero, taskOf, recordOf, taskFrom, numbersOf}
 use Rattle.block.specs.Answers.{answer, done, refusal, refuse, firstOf}
 use Rattle.block.specs.Checks.{recordChecks, numberChecks, doubleCheck, noTask}
@@ -54,7 +54,7 @@ marked b = eqb (byteAt b 0) markFirst && eqb (byteAt b 1) markSecond
 
 -- the side wanted is 0 or 1 and the block's own, the count is at most 30, bytes 6-7 are zero
 unfoldable pub headed : ℕ → List ℕ → Bool
-headed side b = leb side 1 && eqb (sideByte b) side && leb (countByte b) mostTasks && allZero (part b 6 8)
+headed side b = leb side 1 && eqb (sideByte b) side && leb (countByte b) mostTasks && allZero (part b 6 headSize)
 
 unfoldable pub headChecks : ℕ → List ℕ → List Verdict
 headChecks side b =

@@ -6,6 +6,7 @@ use lib.ListN.{getD}
 use lib.Dec.{eqb, ltb}
 use Rattle.base.specs.Lists.{part, every}
 use Rattle.block.specs.declared.Task.{Task}
+use Rattle.block.specs.Format.{listSize}
 
 -- numbers are little-endian: a byte, two bytes, four bytes at a place
 abbrev pub byteAt : List ℕ → ℕ → ℕ
@@ -69,4 +70,4 @@ abbrev pub allBelow : ℕ → List ℕ → Bool
 allBelow bound l = every (λ n. ltb n bound) l
 
 abbrev pub fits : List ℕ → Bool
-fits l = allBelow 256 (part l 0 2) && allBelow 65536 (part l 2 7)
+fits l = allBelow 256 (part l 0 2) && allBelow 65536 (part l 2 listSize)

@@ -35,7 +35,7 @@ pub struct Task {
 
 // The tasks of one mode: the first `count` of `tasks`.
 pub struct Table {
-    pub tasks: [Task; 30],
+    pub tasks: [Task; MOST_TASKS],
     pub count: usize,
 }
 

@@ -6,6 +6,7 @@ ghost use Rattle.block.specs.Answers.{firstOf};
 ghost use Rattle.block.specs.Block.{marked, headed, headChecks};
 use block::BLOCK_SIZE;
 use block::CHECK_PLACE;
+use block::HEAD_SIZE;
 use block::MARK_FIRST;
 use block::MARK_SECOND;
 use block::MOST_TASKS;
@@ -34,7 +35,7 @@ fn is_headed(block: &[u8], side: u32) -> bool
     if MOST_TASKS < base::count(block[3]) {
         return false;
     }
-    words::all_zero(&block[6..8])
+    words::all_zero(&block[6..HEAD_SIZE])
 }
 
 // Codes 1 to 4.

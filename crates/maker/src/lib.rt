@@ -13,7 +13,7 @@ use block::RECORD_SIZE;
 use block::Verdict;
 
 // The block of the tasks that a list of n entries says, every one of which passes.
-pub fn block_of(side: u8, mode: u16, list: &[u32], n: usize) -> [u8; 512]
+pub fn block_of(side: u8, mode: u16, list: &[u32], n: usize) -> [u8; BLOCK_SIZE]
     requires { ⌜ (length (now list) ≡ listSize * n) × (n ≤ mostTasks) × (firstOf (eachEntry side (now list) n) ≡ Verdict.Passed) ⌝ }
     ensures { λ r. ⌜ r ≡ blockOf side mode (tasksFrom (now (list .entry)) n) ⌝ }
 {

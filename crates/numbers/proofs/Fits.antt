@@ -1,5 +1,5 @@
 -- An entry whose numbers fit their fields makes a small task, and each of a list that passes does.
-use Prim.Native.Nat.{ℕ, _+_, _*_, _<_}
+use Prim.Native.Nat.{ℕ, _+_, _*_, _-_, _<_}
 use mathlib.Core.Path.{_≡_}
 use mathlib.Core.Bool.{true, not}
 use mathlib.Core.List.{List, [], _∷_}
@@ -22,13 +22,13 @@ use Rattle.block.proofs.Verdicts.{refuse-passed, first-at, first-right, each-at
 module _ (l : List ℕ) (fit : fits l ≡ true) (long : length l ≡ listSize) where
   byte : (i : ℕ) → i < 2 → getD l i 0 < 256
   byte i h =
-      rw (getD-take 2 l i 0 h) at (ltb-true (getD (part l 0 2) i 0) 256 (every-at (λ n. ltb n 256) (part l 0 2) i 0 (and-left (allBelow 256 (part l 0 2)) (allBelow 65536 (part l 2 7)) fit)
+      rw (getD-take 2 l i 0 h) at (ltb-true (getD (part l 0 2) i 0) 256 (every-at (λ n. ltb n 256) (part l 0 2) i 0 (and-left (allBelow 256 (part l 0 2)) (allBelow 65536 (part l 2 listSize)) fit)
       (simp length-take (omega arith))))
 
-  half : (i : ℕ) → i < 5 → getD l (2 + i) 0 < 65536
+  half : (i : ℕ) → i < listSize - 2 → getD l (2 + i) 0 < 65536
   half i h =
-      rw (getD-take 5 (drop 2 l) i 0 h, getD-drop 2 l i 0) at (ltb-true (getD (part l 2 7) i 0) 65536 (every-at (λ n. ltb n 65536) (part l 2 7) i 0
-      (and-right (allBelow 256 (part l 0 2)) (allBelow 65536 (part l 2 7)) fit) (simp (length-take, length-drop) (omega arith))))
+      rw (getD-take (listSize - 2) (drop 2 l) i 0 h, getD-drop 2 l i 0) at (ltb-true (getD (part l 2 listSize) i 0) 65536 (every-at (λ n. ltb n 65536) (part l 2 listSize) i 0
+      (and-right (allBelow 256 (part l 0 2)) (allBelow 65536 (part l 2 listSize)) fit) (simp (length-take, length-drop) (omega arith))))
 
   pub entry-small : Small (taskFrom l)
   unfolding taskFrom

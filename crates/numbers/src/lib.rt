@@ -4,6 +4,7 @@ ghost use mathlib.Core.Bool.{true};
 ghost use lib.ListN.{length};
 ghost use Rattle.block.specs.Format.{listSize};
 ghost use Rattle.block.specs.Record.{numbersOf, allBelow, taskFrom, fits};
+use block::LIST_SIZE;
 use block::Task;
 
 fn all_below(numbers: &[u32], bound: u32) -> bool
@@ -24,7 +25,7 @@ pub fn are_fit(numbers: &[u32]) -> bool
     ensures { λ r. ⌜ r ≡ fits (now (numbers .entry)) ⌝ }
 {
     if all_below(&numbers[0..2], 256) {
-        return all_below(&numbers[2..7], 65536);
+        return all_below(&numbers[2..LIST_SIZE], 65536);
     }
     false
 }
@@ -50,7 +51,7 @@ pub fn put_numbers(numbers: &mut [u32], x: Task)
     requires { ⌜ length (now numbers) ≡ listSize ⌝ }
     ensures { λ _. ⌜ now (numbers .exit) ≡ numbersOf x ⌝ }
 {
-    let entry: [u32; 7] = [
+    let entry: [u32; LIST_SIZE] = [
         base::number(x.kind),
         base::number(x.priority),
         base::whole(x.number),

@@ -6,9 +6,11 @@ ghost use lib.ListN.{length, replicate};
 ghost use Rattle.block.specs.Format.{blockSize, recordSize, headSize};
 ghost use Rattle.block.specs.Record.{wordBytes, recordOf};
 ghost use Rattle.block.specs.Block.{headOf};
+use block::BLOCK_SIZE;
 use block::HEAD_SIZE;
 use block::MARK_FIRST;
 use block::MARK_SECOND;
+use block::RECORD_SIZE;
 use block::Task;
 
 // A task's sixteen bytes, put into their part of a block.
@@ -16,7 +18,7 @@ pub fn put_record(rec: &mut [u8], x: Task)
     requires { ⌜ length (now rec) ≡ recordSize ⌝ }
     ensures { λ _. ⌜ now (rec .exit) ≡ recordOf x ⌝ }
 {
-    let bytes: [u8; 16] = [
+    let bytes: [u8; RECORD_SIZE] = [
         x.kind,
         x.priority,
         (x.number % 256) as u8,
@@ -41,7 +43,7 @@ fn put_head(head: &mut [u8], side: u8, mode: u16, n: u8)
     requires { ⌜ length (now head) ≡ headSize ⌝ }
     ensures { λ _. ⌜ now (head .exit) ≡ headOf side mode n ⌝ }
 {
-    let bytes: [u8; 8] = [
+    let bytes: [u8; HEAD_SIZE] = [
         MARK_FIRST,
         MARK_SECOND,
         side,
@@ -68,10 +70,10 @@ pub fn put_check(check: &mut [u8], sum: u64)
 }
 
 // A block of zeros behind a head.
-pub fn empty_block(side: u8, mode: u16, n: u8) -> [u8; 512]
+pub fn empty_block(side: u8, mode: u16, n: u8) -> [u8; BLOCK_SIZE]
     ensures { λ r. ⌜ r ≡ headOf side mode n ++ replicate (blockSize - headSize) 0 ⌝ }
 {
-    let mut block = [0u8; 512];
+    let mut block = [0u8; BLOCK_SIZE];
     put_head(&mut block[0..HEAD_SIZE], side, mode, n);
     block
 }

@@ -6,6 +6,7 @@ ghost use lib.ListN.{length, drop};
 ghost use Rattle.block.specs.Format.{blockSize, mostTasks, listSize};
 ghost use Rattle.block.specs.Block.{tasksIn, listOf, tableOf};
 use block::LIST_SIZE;
+use block::MOST_TASKS;
 use block::Table;
 use block::Task;
 
@@ -22,7 +23,7 @@ pub fn no_tasks() -> Table
         offset: 0,
     };
     Table {
-        tasks: [none; 30],
+        tasks: [none; MOST_TASKS],
         count: 0,
     }
 }

@@ -12,7 +12,7 @@ use Rattle.base.specs.Lists.{part, upTo, every}
 use Rattle.base.proofs.Lists.{up-length, up-at, up-same, up-list, every-at, flat-one, flat-part, and-left, and-right}
 use Rattle.block.specs.declared.Task.{Task}
 use Rattle.block.specs.declared.Verdict.the-variants.{Passed}
-use Rattle.block.specs.Format.{blockSize, headSize, recordSize, mostTasks, checkPlace, checkWords, recordPlace, listSize, markFirst, markSecond}
+use Rattle.block.specs.Format.{blockSize, headSize, recordSize, zeroPlace, mostTasks, checkPlace, checkWords, recordPlace, listSize, markFirst, markSecond}
 use Rattle.block.specs.Record.{byteAt, halfAt, wordAt, wordBytes, allZero, taskOf, recordOf, taskFrom, numbersOf, fits}
 use Rattle.block.specs.Answers.{refusal, refuse, firstOf}
 use Rattle.block.specs.Checks.{taskChecks, recordChecks, numberChecks, noTask}
@@ -41,16 +41,16 @@ bytes-part b h from size i l = rw (getD-take size (drop from b) i 0 l, getD-drop
 
 -- ---- a record's bytes, from its task
 
-module _ (r : List ℕ) (long : length r ≡ recordSize) (bytes : (i : ℕ) → i < recordSize → getD r i 0 < 256) (zero-end : allZero (part r 12 16) ≡ true) where
+module _ (r : List ℕ) (long : length r ≡ recordSize) (bytes : (i : ℕ) → i < recordSize → getD r i 0 < 256) (zero-end : allZero (part r zeroPlace recordSize) ≡ true) where
   lows : (i : ℕ) → i + 1 < recordSize → halfAt r i % 256 ≡ getD r i 0
   lows i h = low (getD r i 0) (getD r (i + 1) 0) (bytes i (omega arith)) (bytes (i + 1) h)
 
   highs : (i : ℕ) → i + 1 < recordSize → halfAt r i / 256 % 256 ≡ getD r (i + 1) 0
   highs i h = high (getD r i 0) (getD r (i + 1) 0) (bytes i (omega arith)) (bytes (i + 1) h)
 
-  last : (i : ℕ) → i < 4 → 0 ≡ getD r (12 + i) 0
+  last : (i : ℕ) → i < recordSize - zeroPlace → 0 ≡ getD r (zeroPlace + i) 0
   last i h =
-      sym (rw (getD-take 4 (drop 12 r) i 0 h, getD-drop 12 r i 0) at (eqb-true (getD (part r 12 16) i 0) 0 (every-at (λ b. eqb b 0) (part r 12 16) i 0 zero-end (simp (length-take, length-drop) (omega arith)))))
+      sym (rw (getD-take (recordSize - zeroPlace) (drop zeroPlace r) i 0 h, getD-drop zeroPlace r i 0) at (eqb-true (getD (part r zeroPlace recordSize) i 0) 0 (every-at (λ b. eqb b 0) (part r zeroPlace recordSize) i 0 zero-end (simp (length-take, length-drop) (omega arith)))))
 
   spelled : recordOf (taskOf r) ≡ upTo (λ i. getD r i 0) recordSize
   unfolding recordOf taskOf upTo
@@ -83,13 +83,13 @@ module _ (side : ℕ) (b : List ℕ) (bytes : Bytes b) (passed : blockVerdict si
   unfolding headChecks
   checked = eqb-true _ _ (not-false _ (refuse-passed _ (refusal 2 side 0) (first-at (headChecks side b) heads 1)))
 
-  six : allZero (part b 6 8) ≡ true
+  six : allZero (part b 6 headSize) ≡ true
   unfolding headed
-  six = and-right (leb side 1 && eqb (sideByte b) side && leb (countByte b) mostTasks) (allZero (part b 6 8)) (head-headed side b heads)
+  six = and-right (leb side 1 && eqb (sideByte b) side && leb (countByte b) mostTasks) (allZero (part b 6 headSize)) (head-headed side b heads)
 
   zero-at : (i : ℕ) → i < 2 → 0 ≡ getD b (6 + i) 0
   zero-at i h =
-      sym (rw (getD-take 2 (drop 6 b) i 0 h, getD-drop 6 b i 0) at (eqb-true (getD (part b 6 8) i 0) 0 (every-at (λ b. eqb b 0) (part b 6 8) i 0 six (simp (length-take, length-drop) (omega (arith, long))))))
+      sym (rw (getD-take 2 (drop 6 b) i 0 h, getD-drop 6 b i 0) at (eqb-true (getD (part b 6 headSize) i 0) 0 (every-at (λ b. eqb b 0) (part b 6 headSize) i 0 six (simp (length-take, length-drop) (omega (arith, long))))))
 
   head-spelled : headOf side (modeNumber b) (countByte b) ≡ upTo (λ i. getD b i 0) headSize
   unfolding headOf upTo
@@ -115,11 +115,11 @@ module _ (side : ℕ) (b : List ℕ) (bytes : Bytes b) (passed : blockVerdict si
       ∙ record-again (take recordSize (drop (recordPlace k) b))
       (simp (length-take, length-drop) (omega (arith, long, block-count side b passed)))
       (λ i l. bytes-part b bytes (recordPlace k) recordSize i l)
-      (subst (λ (r : List ℕ). allZero (part r 12 16) ≡ true) e (ended k h))
+      (subst (λ (r : List ℕ). allZero (part r zeroPlace recordSize) ≡ true) e (ended k h))
     where
-      ended : (k : ℕ) → k < countByte b → allZero (part (recordPart b k) 12 16) ≡ true
+      ended : (k : ℕ) → k < countByte b → allZero (part (recordPart b k) zeroPlace recordSize) ≡ true
       ended k h =
-          not-false _ (refuse-passed _ (refusal 5 side k) (first-at (refuse (not (allZero (part (recordPart b k) 12 16))) (refusal 5 side k) ∷ [])
+          not-false _ (refuse-passed _ (refusal 5 side k) (first-at (refuse (not (allZero (part (recordPart b k) zeroPlace recordSize))) (refusal 5 side k) ∷ [])
           (first-right (taskChecks side k (taskOf (recordPart b k))) _ (each-at (λ k. firstOf (recordChecks side k (recordPart b k))) (countByte b) k h (block-records side b passed))) 0))
 
   records-again : (k : ℕ) → k ≤ countByte b → flatMap recordOf (tasksIn b k) ≡ take (recordSize * k) (drop headSize b)
@@ -161,16 +161,16 @@ module _ (side : ℕ) (b : List ℕ) (bytes : Bytes b) (passed : blockVerdict si
       at i = getD-drop checkPlace b i 0
 
       first : wordAt b checkPlace % 256 ≡ getD (drop checkPlace b) 0 0
-      first = omega (arith, at 0, bytes checkPlace, bytes 509, bytes 510, bytes 511)
+      first = omega (arith, at 0, bytes checkPlace, bytes (checkPlace + 1), bytes (checkPlace + 2), bytes (checkPlace + 3))
 
       second : wordAt b checkPlace / 256 % 256 ≡ getD (drop checkPlace b) 1 0
-      second = omega (arith, at 1, bytes checkPlace, bytes 509, bytes 510, bytes 511)
+      second = omega (arith, at 1, bytes checkPlace, bytes (checkPlace + 1), bytes (checkPlace + 2), bytes (checkPlace + 3))
 
       third : wordAt b checkPlace / 65536 % 256 ≡ getD (drop checkPlace b) 2 0
-      third = omega (arith, at 2, bytes checkPlace, bytes 509, bytes 510, bytes 511)
+      third = omega (arith, at 2, bytes checkPlace, bytes (checkPlace + 1), bytes (checkPlace + 2), bytes (checkPlace + 3))
 
       fourth : wordAt b checkPlace / 65536 / 256 % 256 ≡ getD (drop checkPlace b) 3 0
-      fourth = omega (arith, at 3, bytes checkPlace, bytes 509, bytes 510, bytes 511)
+      fourth = omega (arith, at 3, bytes checkPlace, bytes (checkPlace + 1), bytes (checkPlace + 2), bytes (checkPlace + 3))
 
   check-again : wordBytes (checkOf b) ≡ drop checkPlace b
   check-again =
