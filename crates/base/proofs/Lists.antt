@@ -115,6 +115,11 @@ module _ {A : Type 0} where
   any-not p (x ∷ xs) zero d e h = or-left (p x) (any p xs) e
   any-not p (x ∷ xs) (suc i) d e h = any-not p xs i d (or-right (p x) (any p xs) e) (omega arith)
 
+  pub any-none : (p : A → Bool) (l : List A) (d : A) → ((i : ℕ) → i < length l → p (getD l i d) ≡ false) → any p l ≡ false
+  unfolding any
+  any-none p [] d h = refl
+  any-none p (x ∷ xs) d h = rw (h 0 (omega arith), any-none p xs d (λ i l. h (suc i) (omega arith)))
+
   -- ---- one list laid over another
 
   pub over-more : (d d₀ s : List A) (i : ℕ) (z : A) → i < length s → i < length d₀ → d ≡ take i s ++ drop i d₀

@@ -42,6 +42,9 @@ pub record Small (x : Task) : Type 0 where
   pub execution : x .execution < 65536
   pub offset : x .offset < 65536
 
+abbrev pub AllSmall : List Task → Type 0
+AllSmall xs = (k : ℕ) → k < length xs → Small (getD xs k noTask)
+
 -- every number of a list is a byte
 abbrev pub Bytes : List ℕ → Type 0
 Bytes b = (i : ℕ) → getD b i 0 < 256

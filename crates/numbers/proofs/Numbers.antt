@@ -1,24 +1,18 @@
 -- A list of numbers filled task by task.
 use Prim.Native.Nat.{ℕ, suc, _+_, _*_, _-_}
-use mathlib.Core.Path.{_≡_, refl, ap, _∙_}
+use mathlib.Core.Path.{_≡_, ap, _∙_}
 use mathlib.Core.List.{List, _++_}
 use native.Mathlib.Numerals.{add-one}
 use native.Mathlib.Omega.{arith}
 use lib.ListN.{length, take, drop}
 use lib.Seq.{drop-drop}
 use Rattle.base.specs.Lists.{upTo}
-use Rattle.base.proofs.Lists.{up-length, put-part, flat-length, flat-one}
+use Rattle.base.proofs.Lists.{up-length, put-part, flat-one}
 use Rattle.block.specs.declared.Task.{Task}
 use Rattle.block.specs.Format.{listSize}
 use Rattle.block.specs.Record.{numbersOf}
 use Rattle.block.specs.Block.{listOf}
-
-pub entry-long : (x : Task) → length (numbersOf x) ≡ listSize
-unfolding numbersOf
-entry-long x = refl
-
-pub list-length : (xs : List Task) → length (listOf xs) ≡ listSize * length xs
-list-length xs = flat-length numbersOf listSize entry-long xs
+use Rattle.layout.proofs.Lists.{list-length}
 
 -- one task more
 pub list-more : (f : ℕ → Task) (l l₀ piece : List ℕ) (k : ℕ) → l ≡ listOf (upTo f k) ++ drop (listSize * k) l₀ → piece ≡ numbersOf (f k)

@@ -1,6 +1,6 @@
 -- `block_of` gives the block of n tasks. Invariant: the block has its head, the first k records, and zeros behind them.
-use Rattle.maker.proofs.Written.{head-long, grown, grown-none, grown-length, grown-more, grown-sealed}
-use Rattle.numbers.proofs.Fits.{entry-fits}
+use Rattle.layout.proofs.Written.{head-long, grown, grown-none, grown-length, grown-more, grown-sealed}
+use Rattle.layout.proofs.Entries.{entry-fits}
 use Rattle.block.specs.Block.{numbersPart, headOf}
 use Rattle.block.specs.Record.{taskFrom, recordOf, wordBytes}
 use Rattle.block.specs.Format.{blockSize}

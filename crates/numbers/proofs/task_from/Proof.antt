@@ -1,5 +1,5 @@
 -- `task_from` gives the task that an entry says, where it fits.
-use Rattle.numbers.proofs.Fits.{entry-small}
+use Rattle.layout.proofs.Entries.{entry-small}
 use Rattle.block.specs.Legal.{Small}
 use Rattle.block.specs.Record.{taskFrom}
 use mathlib.Core.Path.{refl}

@@ -13,7 +13,7 @@ use Rattle.block.specs.Format.{blockSize, headSize, recordSize, mostTasks, chec
 use Rattle.block.specs.Record.{wordAt, wordBytes, taskOf, recordOf}
 use Rattle.block.specs.Checks.{noTask}
 use Rattle.block.specs.Block.{recordPart, tasksIn, wordSum, checkOf, headOf, bodyOf, blockOf}
-use Rattle.block.specs.Legal.{Small}
+use Rattle.block.specs.Legal.{Small, AllSmall}
 
 -- ---- lengths
 
@@ -25,20 +25,20 @@ pub head-long : (side mode n : ℕ) → length (headOf side mode n) ≡ headSize
 unfolding headOf
 head-long side mode n = refl
 
-records-length : (xs : List Task) → length (flatMap recordOf xs) ≡ recordSize * length xs
-records-length xs = flat-length recordOf recordSize record-long xs
+records-long : (xs : List Task) → length (flatMap recordOf xs) ≡ recordSize * length xs
+records-long xs = flat-length recordOf recordSize record-long xs
 
-pub front-length : (head : List ℕ) (xs : List Task) → length head ≡ headSize → length (head ++ flatMap recordOf xs) ≡ recordPlace (length xs)
-front-length head xs h = simp length-append (omega (arith, records-length xs))
+pub front-long : (head : List ℕ) (xs : List Task) → length head ≡ headSize → length (head ++ flatMap recordOf xs) ≡ recordPlace (length xs)
+front-long head xs h = simp length-append (omega (arith, records-long xs))
 
-pub body-length : (side mode : ℕ) (xs : List Task) → length xs ≤ mostTasks → length (bodyOf side mode xs) ≡ checkPlace
+pub body-long : (side mode : ℕ) (xs : List Task) → length xs ≤ mostTasks → length (bodyOf side mode xs) ≡ checkPlace
 unfolding bodyOf
-body-length side mode xs h =
-    simp (length-append, length-replicate) (omega (arith, head-long side mode (length xs), records-length xs))
+body-long side mode xs h =
+    simp (length-append, length-replicate) (omega (arith, head-long side mode (length xs), records-long xs))
 
 pub block-long : (side mode : ℕ) (xs : List Task) → length xs ≤ mostTasks → length (blockOf side mode xs) ≡ blockSize
 unfolding blockOf
-block-long side mode xs h = simp length-append (omega (arith, body-length side mode xs h))
+block-long side mode xs h = simp length-append (omega (arith, body-long side mode xs h))
 
 -- ---- record after record into zeros, and the check
 
@@ -59,11 +59,11 @@ grown-none head f = ap (λ (l : List ℕ). l ++ replicate (blockSize - headSize)
 
 module _ (head : List ℕ) (h : length head ≡ headSize) (f : ℕ → Task) where
   grown-front : (k : ℕ) → length (head ++ flatMap recordOf (upTo f k)) ≡ recordPlace k
-  grown-front k = front-length head (upTo f k) h ∙ ap recordPlace (up-length f k)
+  grown-front k = front-long head (upTo f k) h ∙ ap recordPlace (up-length f k)
 
   pub grown-length : (k : ℕ) → k ≤ mostTasks → length (grown head f k) ≡ blockSize
   unfolding grown
-  grown-length k l = simp (length-append, length-replicate) (omega (arith, h, records-length (upTo f k), up-length f k))
+  grown-length k l = simp (length-append, length-replicate) (omega (arith, h, records-long (upTo f k), up-length f k))
 
   pub grown-more : (b rec : List ℕ) (k : ℕ) → k < mostTasks → b ≡ grown head f k → rec ≡ recordOf (f k)
       → take (recordPlace k) b ++ (rec ++ drop (recordPlace k + recordSize - recordPlace k) (drop (recordPlace k) b)) ≡ grown head f (k + 1)
@@ -100,7 +100,7 @@ module _ (side mode : ℕ) (f : ℕ → Task) (n : ℕ) (few : n ≤ mostTasks) 
       (sym (append-assoc (headOf side mode n ++ flatMap recordOf (upTo f n)) (replicate (checkPlace - recordPlace n) 0) (replicate 4 0)))
 
   long : length (bodyOf side mode (upTo f n)) ≡ checkPlace
-  long = body-length side mode (upTo f n) (omega (arith, up-length f n))
+  long = body-long side mode (upTo f n) (omega (arith, up-length f n))
 
   pub grown-check : checkOf (grown (headOf side mode n) f n) ≡ checkOf (bodyOf side mode (upTo f n))
   grown-check = ap checkOf grown-body ∙ ap (λ (s : ℕ). s % 4294967296) (sum-front (bodyOf side mode (upTo f n)) (replicate 4 0) checkWords (omega (arith, long)))
@@ -145,7 +145,7 @@ module _ (side mode : ℕ) (xs : List Task) where
       rw (m, s, d, drop-append-add head (flatMap recordOf xs ++ (room ++ rest)) (recordSize * k))
       (flat-part recordOf recordSize record-long xs (room ++ rest) k noTask l)
 
-  pub tasks-written : ((k : ℕ) → k < length xs → Small (getD xs k noTask)) → tasksIn (blockOf side mode xs) (length xs) ≡ xs
+  pub tasks-written : AllSmall xs → tasksIn (blockOf side mode xs) (length xs) ≡ xs
   tasks-written s =
       up-same (λ k. taskOf (recordPart (blockOf side mode xs) k)) (λ k. getD xs k noTask) (length xs)
       (λ k l. ap taskOf (record-written k l) ∙ record-says (getD xs k noTask) (s k l))
