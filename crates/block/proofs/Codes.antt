@@ -15,7 +15,7 @@ use Rattle.block.specs.Format.{blockSize, recordSize, zeroPlace, checkPl
 use Rattle.block.specs.Answers.{refusal, refuse, firstOf}
 use Rattle.block.specs.Checks.{kindOn, taskChecks, recordChecks, borneIn, doubleCheck, noTask}
 use Rattle.block.specs.Record.{wordAt, allZero, taskOf, taskFrom, fits}
-use Rattle.block.specs.Block.{recordPart, tasksIn, unusedRoom, countByte, checkOf, marked, headed, headChecks, eachRecord, eachDouble, bodyChecks, roomCheck, blockVerdict, spoilt, reading, readingOf, numbersPart, tasksOf, listHead, listVerdict, blockOf, wrote, written, writeOf, replyOf, leftOf}
+use Rattle.block.specs.Block.{recordPart, tasksIn, unusedRoom, countByte, checkOf, marked, headed, sealChecks, headChecks, eachRecord, eachDouble, bodyChecks, roomCheck, blockVerdict, spoilt, reading, readingOf, numbersPart, tasksOf, listHead, listVerdict, blockOf, wrote, written, writeOf, replyOf, leftOf}
 
 -- the answer that a verdict refuses with has one
 abbrev pub Coded : Verdict → Type 0
@@ -73,12 +73,17 @@ module _ (side : ℕ) where
   double : (xs : List Task) (k : ℕ) → Coded (doubleCheck side xs k)
   double xs k = coded-if (borneIn (getD xs k noTask) (take k xs)) (refusal 6 side k) (omega arith)
 
+  seal-coded : (place : ℕ) (b : List ℕ) → Coded (firstOf (sealChecks side place b))
+  unfolding sealChecks
+  seal-coded place b =
+      coded-test (not (eqb (length b) blockSize)) (refusal 1 side place) _ (omega arith)
+      (coded-test (not (eqb (wordAt b checkPlace) (checkOf b))) (refusal 2 side place) [] (omega arith) coded-none)
+
   head-coded : (b : List ℕ) → Coded (firstOf (headChecks side b))
   unfolding headChecks
   head-coded b =
-      coded-test (not (eqb (length b) blockSize)) (refusal 1 side 0) _ (omega arith)
-      (coded-test (not (eqb (wordAt b checkPlace) (checkOf b))) (refusal 2 side 0) _ (omega arith)
-      (coded-test (not (marked b)) (refusal 3 side 0) _ (omega arith) (coded-test (not (headed side b)) (refusal 4 side 0) [] (omega arith) coded-none)))
+      coded-after (sealChecks side 0 b) _ (seal-coded 0 b)
+      (coded-test (not (marked b)) (refusal 3 side 0) _ (omega arith) (coded-test (not (headed side b)) (refusal 4 side 0) [] (omega arith) coded-none))
 
   body-coded : (b : List ℕ) (n : ℕ) → Coded (firstOf (bodyChecks side b n))
   body-coded b n =

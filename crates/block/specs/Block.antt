@@ -49,20 +49,27 @@ checkOf b = wordSum b checkWords % 4294967296
 
 -- ---- reading: codes 1 to 7 in order
 
+-- bytes 0 and 1 are a mark's two
+abbrev pub markedBy : ℕ → ℕ → List ℕ → Bool
+markedBy first second b = eqb (byteAt b 0) first && eqb (byteAt b 1) second
+
 abbrev pub marked : List ℕ → Bool
-marked b = eqb (byteAt b 0) markFirst && eqb (byteAt b 1) markSecond
+marked b = markedBy markFirst markSecond b
 
 -- the side wanted is 0 or 1 and the block's own, the count is at most 30, bytes 6-7 are zero
 unfoldable pub headed : ℕ → List ℕ → Bool
 headed side b = leb side 1 && eqb (sideByte b) side && leb (countByte b) mostTasks && allZero (part b 6 headSize)
 
-unfoldable pub headChecks : ℕ → List ℕ → List Verdict
-headChecks side b =
-    refuse (not (eqb (length b) blockSize)) (refusal 1 side 0)
-    ∷ refuse (not (eqb (wordAt b checkPlace) (checkOf b))) (refusal 2 side 0)
-    ∷ refuse (not (marked b)) (refusal 3 side 0)
-    ∷ refuse (not (headed side b)) (refusal 4 side 0)
+-- 1 and 2: the length and the check, for a side and the place that a refusal names
+unfoldable pub sealChecks : ℕ → ℕ → List ℕ → List Verdict
+sealChecks side place b =
+    refuse (not (eqb (length b) blockSize)) (refusal 1 side place)
+    ∷ refuse (not (eqb (wordAt b checkPlace) (checkOf b))) (refusal 2 side place)
     ∷ []
+
+-- 1 to 4
+unfoldable pub headChecks : ℕ → List ℕ → List Verdict
+headChecks side b = sealChecks side 0 b ++ (refuse (not (marked b)) (refusal 3 side 0) ∷ refuse (not (headed side b)) (refusal 4 side 0) ∷ [])
 
 -- 5 for each of n records, 6 for each task of a list
 abbrev pub eachRecord : ℕ → List ℕ → ℕ → List Verdict

@@ -19,7 +19,7 @@ use Rattle.block.specs.Checks.{taskChecks, recordChecks, noTask}
 use Rattle.block.specs.Block.{recordPart, tasksIn, countByte, modeNumber, sideByte, unusedRoom, wordSum, checkOf, marked, headed, headChecks, eachRecord, eachDouble, blockVerdict, holds, readingOf, headOf, bodyOf, blockOf}
 use Rattle.block.specs.Legal.{Small, AllSmall, Bytes}
 use Rattle.block.proofs.Verdicts.{refuse-passed, first-at, first-right, each-at}
-use Rattle.block.proofs.Heads.{headed-own, head-headed}
+use Rattle.block.proofs.Heads.{seal-check, headed-own, head-sealed, head-marked, head-headed}
 use Rattle.block.proofs.Zeros.{zeros-are}
 use Rattle.layout.proofs.Written.{sum-front}
 use Rattle.block.proofs.Reading.{Held, reading-held, block-head, block-length, block-count, block-body, block-records}
@@ -74,12 +74,10 @@ module _ (side : ℕ) (b : List ℕ) (bytes : Bytes b) (passed : blockVerdict si
   long = block-length side b passed
 
   mark : marked b ≡ true
-  unfolding headChecks
-  mark = not-false _ (refuse-passed _ (refusal 3 side 0) (first-at (headChecks side b) heads 2))
+  mark = head-marked side b heads
 
   checked : wordAt b checkPlace ≡ checkOf b
-  unfolding headChecks
-  checked = eqb-true _ _ (not-false _ (refuse-passed _ (refusal 2 side 0) (first-at (headChecks side b) heads 1)))
+  checked = seal-check side 0 b (head-sealed side b heads)
 
   six : allZero (part b 6 headSize) ≡ true
   unfolding headed

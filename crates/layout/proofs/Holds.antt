@@ -17,6 +17,7 @@ use Rattle.block.specs.Checks.{taskChecks, recordChecks, noTask}
 use Rattle.block.specs.Block.{recordPart, tasksIn, countByte, modeNumber, unusedRoom, checkOf, marked, headed, headChecks, eachRecord, eachDouble, blockVerdict, holds, readingOf, headOf, bodyOf, blockOf}
 use Rattle.block.specs.Legal.{Legal, Small, AllSmall}
 use Rattle.block.proofs.Verdicts.{first-on, first-last, each-all}
+use Rattle.block.proofs.Heads.{seal-passes, head-passes}
 use Rattle.block.proofs.Zeros.{zeros-zero}
 use Rattle.layout.proofs.Legal.{legal-task, legal-doubles}
 use Rattle.layout.proofs.Written.{head-long, front-long, body-long, block-long, sum-front, record-written, record-says, tasks-written}
@@ -61,8 +62,7 @@ module _ (side mode : ℕ) (xs : List Task) (sided : side ≤ 1) (legal : Legal 
   mode-right h = omega arith
 
   heads-pass : firstOf (headChecks side (blockOf side mode xs)) ≡ Passed
-  unfolding firstOf headChecks
-  heads-pass = simp (eq-eqb _ _ (block-long side mode xs few), eq-eqb _ _ check-right, mark-right, head-right)
+  heads-pass = head-passes side _ (seal-passes side 0 _ (eq-eqb _ _ (block-long side mode xs few)) (eq-eqb _ _ check-right)) mark-right head-right
 
   room-zero : allZero (unusedRoom (blockOf side mode xs) (length xs)) ≡ true
   unfolding blockOf bodyOf

@@ -9,7 +9,7 @@ use Rattle.lines.specs.Line.{digits, decimal, spaced, restOf, lineOf}
 use Rattle.block.specs.Record.{taskOf, recordOf}
 use Rattle.block.specs.Answers.{firstOf}
 use Rattle.block.specs.Checks.{alike, taskChecks, kindOn}
-use Rattle.block.specs.Block.{wordSum, headed, headChecks, blockVerdict, readingOf, headOf, bodyOf, blockOf}
+use Rattle.block.specs.Block.{wordSum, headed, sealChecks, headChecks, blockVerdict, readingOf, headOf, bodyOf, blockOf}
 use Rattle.window.specs.Order.{rank}
 use Rattle.window.specs.Demand.{sumAbove, steadyDemand, phaseDemand, requestDemand}
 use Rattle.window.specs.Worst.{takeOf, nextOf, sweep}
@@ -19,5 +19,5 @@ use Rattle.render.specs.Printed.{oldBlock, newBlock, found, modeHeld, tasksHeld
 use Rattle.report.specs.Examples.{inputA, linesA, lineC, lineLong}
 
 pub examples : (printed (inputA 20) ≡ linesA) × (printed (inputA 8) ≡ lineC) × (printed (inputA 20 ++ (0 ∷ [])) ≡ lineLong)
-unfolding printed oldBlock newBlock found inputA linesA lineC lineLong blockOf headOf bodyOf recordOf wordSum readingOf blockVerdict headChecks headed taskChecks kindOn taskOf every any alike analyseOf pairOf linesOf doneLines changeLine refusedLine taskLines taskLine letterOf modeHeld tasksHeld lineOf restOf spaced decimal digits upTo firstOf rowOf steadyDemand phaseDemand requestDemand sumAbove sumOf rank jobsIn cutIn ceil windowOf firstWhere sweep nextOf takeOf flatMap
+unfolding printed oldBlock newBlock found inputA linesA lineC lineLong blockOf headOf bodyOf recordOf wordSum readingOf blockVerdict sealChecks headChecks headed taskChecks kindOn taskOf every any alike analyseOf pairOf linesOf doneLines changeLine refusedLine taskLines taskLine letterOf modeHeld tasksHeld lineOf restOf spaced decimal digits upTo firstOf rowOf steadyDemand phaseDemand requestDemand sumAbove sumOf rank jobsIn cutIn ceil windowOf firstWhere sweep nextOf takeOf flatMap
 examples = (refl, refl, refl)

@@ -1,45 +1,53 @@
 -- `check_head` gives the first of codes 1 to 4 that a block earns.
-use Rattle.block.proofs.Heads.{sealed-as, head-short, head-unsealed, head-unmarked, head-wrong, head-passes}
-use borrow.Author.Tests.{eq-eqb, ne-eqb, not-true, not-false}
-use mathlib.Core.Path.{sym, _∙_}
+use Rattle.block.proofs.Heads.{seal-length, head-unsealed, head-unmarked, head-wrong, head-passes}
+use Rattle.block.specs.Block.{sealChecks}
+use Rattle.block.specs.Answers.{firstOf}
+use Rattle.block.specs.declared.Verdict.the-variants.{Passed}
+use borrow.Author.Tests.{not-true, not-false}
+use mathlib.Core.Path.{_≡_, sym, _∙_}
 use borrow.Author.Needs.{needs}
 use Rattle.heads.proofs.check_head.Statement.{statement}
 use Rattle.heads.proofs.check_head.Tie as tie
 
+seal : (c : tie.After-enum-told) → firstOf (sealChecks (c .before .before .before .before .args .side) 0 (c .before .before .before .before .args .block .now)) ≡ Passed
+seal c = sym (c .before .before .check-seal .ensures) ∙ c .enum-told .given .1
+
 returns : tie.Need-returns
 returns c =
-    c .refused .ensures ∙ sym (head-short _ _ (ne-eqb _ _ (c .before .if1 .taken)))
+    sym (head-unsealed _ _ _ (sym (c .before .before .before .check-seal .ensures) ∙ c .before .a .given .1))
+
+is-marked-requires : tie.Need-is-marked-requires
+is-marked-requires c κs =
+    seal-length _ _ _ (seal c)
 
 returns-2 : tie.Need-returns-2
 returns-2 c =
-    c .refused2 .ensures ∙ sym (head-unsealed _ _ (eq-eqb _ _ (c .before .before .before .before .if1 .left)) (sealed-as _ _ _ _ (c .before .before .before .word-at .ensures .0) (c .before .before .check-of .ensures) (ne-eqb _ _ (c .before .if2 .taken))))
+    c .refused .ensures ∙ sym (head-unmarked _ _ (seal (c .before .before .before)) (sym (c .before .before .is-marked .ensures) ∙ not-true _ (c .before .if1 .taken)))
+
+is-headed-requires : tie.Need-is-headed-requires
+is-headed-requires c κs =
+    seal-length _ _ _ (seal (c .before .before))
 
 returns-3 : tie.Need-returns-3
 returns-3 c =
-    c .refused3 .ensures ∙ sym (head-unmarked _ _ (eq-eqb _ _ (c .before .before .before .before .before .before .if1 .left)) (sealed-as _ _ _ _ (c .before .before .before .before .before .word-at .ensures .0) (c .before .before .before .before .check-of .ensures) (eq-eqb _ _ (c .before .before .before .if2 .left))) (sym (c .before .before .is-marked .ensures) ∙ not-true _ (c .before .if3 .taken)))
+    c .refused2 .ensures ∙ sym (head-wrong _ _ (seal (c .before .before .before .before .before)) (sym (c .before .before .before .before .is-marked .ensures) ∙ not-false _ (c .before .before .before .if1 .left)) (sym (c .before .before .is-headed .ensures) ∙ not-true _ (c .before .if2 .taken)))
 
 returns-4 : tie.Need-returns-4
 returns-4 c =
-    c .refused4 .ensures ∙ sym (head-wrong _ _ (eq-eqb _ _ (c .before .before .before .before .before .before .before .before .if1 .left)) (sealed-as _ _ _ _ (c .before .before .before .before .before .before .before .word-at .ensures .0) (c .before .before .before .before .before .before .check-of .ensures) (eq-eqb _ _ (c .before .before .before .before .before .if2 .left))) (sym (c .before .before .before .before .is-marked .ensures) ∙ not-false _ (c .before .before .before .if3 .left)) (sym (c .before .before .is-headed .ensures) ∙ not-true _ (c .before .if4 .taken)))
-
-returns-5 : tie.Need-returns-5
-returns-5 c =
-    sym (head-passes _ _ (eq-eqb _ _ (c .before .before .before .before .before .before .before .if1 .left)) (sealed-as _ _ _ _ (c .before .before .before .before .before .before .word-at .ensures .0) (c .before .before .before .before .before .check-of .ensures) (eq-eqb _ _ (c .before .before .before .before .if2 .left))) (sym (c .before .before .before .is-marked .ensures) ∙ not-false _ (c .before .before .if3 .left)) (sym (c .before .is-headed .ensures) ∙ not-false _ (c .if4 .left)))
+    sym (head-passes _ _ (seal (c .before .before .before .before)) (sym (c .before .before .before .is-marked .ensures) ∙ not-false _ (c .before .before .if1 .left)) (sym (c .before .is-headed .ensures) ∙ not-false _ (c .if2 .left)))
 
 pub check-head-spec : {M : Type 1} → statement M
 check-head-spec =
     tie.close
     (tie.spec
     (λ c κs. search needs)
+    (λ c. search needs)
     returns
-    (λ c κs. search needs)
-    (λ c κs. search needs)
+    (λ c. search needs)
+    is-marked-requires
     (λ c κs. search needs)
     returns-2
-    (λ c κs. search needs)
+    is-headed-requires
     (λ c κs. search needs)
     returns-3
-    (λ c κs. search needs)
-    (λ c κs. search needs)
-    returns-4
-    returns-5)
+    returns-4)

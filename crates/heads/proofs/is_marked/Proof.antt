@@ -1,4 +1,4 @@
--- `is_marked` says whether a block has its mark.
+-- `is_marked` says whether a block has a mark.
 use borrow.Author.Tests.{eq-eqb, ne-eqb}
 use borrow.Author.Needs.{needs}
 use Rattle.heads.proofs.is_marked.Statement.{statement}
