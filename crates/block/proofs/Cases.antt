@@ -9,23 +9,17 @@ use Rattle.block.specs.Answers.{answer, done, firstOf, answerOf}
 use Rattle.block.specs.Record.{taskBy, wordBytes, taskOf, recordOf, taskFrom, numbersOf}
 use Rattle.block.specs.Checks.{kindOn, taskChecks, alike}
 use Rattle.block.specs.Block.{modeNumber, wordSum, checkOf, headed, sealChecks, headChecks, blockChecks, blockVerdict, listHead, listVerdict, headOf, bodyOf, holds, spoilt, filled, tableOf, loaded}
-use Rattle.block.specs.Cases.{shownTask, shownBytes, shownNumbers, codeFound, codeExpected, ofRoom, second, cases}
+use Rattle.block.specs.Cases.{shownTask, shownBytes, shownNumbers, answerFound, answerExpected, cases}
 
--- every verdict of the table has its code
-pub cases-hold : map codeFound cases ≡ map codeExpected cases
+-- every verdict of the table has its answer
+pub cases-hold : map answerFound cases ≡ map answerExpected cases
 unfolding cases firstOf every any upTo taskOf taskFrom kindOn taskChecks alike wordSum headed sealChecks headChecks blockVerdict listHead listVerdict
 cases-hold = refl
 
--- the answers of a block whose head and record all refuse, of its unused room, and of a list whose head refuses throughout
-pub shown-order : (map answerOf (blockChecks 1 (1 ∷ 0 ∷ 0 ∷ 1 ∷ [])) ≡ answer 1 1 0 0 ∷ answer 2 1 0 0 ∷ answer 3 1 0 0 ∷ answer 4 1 0 0 ∷ answer 5 1 0 0 ∷ done ∷ done ∷ [])
-    × (answerOf (ofRoom 24 487) ≡ answer 7 0 0 0) × (map answerOf (listHead 9 8 511) ≡ answer 1 2 0 0 ∷ answer 11 2 0 0 ∷ answer 4 2 0 0 ∷ [])
-unfolding firstOf every any upTo taskOf kindOn taskChecks alike wordSum headed sealChecks headChecks listHead
-shown-order = (refl, refl, refl)
-
--- done names neither side nor record; a double names the later record
-pub shown-answer : (done ≡ answer 0 2 0 0) × (answerOf (second 1 5 1 6) ≡ answer 6 0 1 0)
-unfolding any alike
-shown-answer = (refl, refl)
+-- the answers of a block whose head and record all refuse: each code before the next
+pub shown-order : map answerOf (blockChecks 1 (1 ∷ 0 ∷ 0 ∷ 1 ∷ [])) ≡ answer 1 1 0 0 ∷ answer 2 1 0 0 ∷ answer 3 1 0 0 ∷ answer 4 1 0 0 ∷ answer 5 1 0 0 ∷ done ∷ done ∷ []
+unfolding firstOf every any upTo taskOf kindOn taskChecks alike wordSum headed sealChecks headChecks
+shown-order = refl
 
 -- a part goes from its first place up to its second
 pub shown-part : part {A = ℕ} (10 ∷ 11 ∷ 12 ∷ 13 ∷ []) 1 3 ≡ 11 ∷ 12 ∷ []
