@@ -112,7 +112,6 @@ pub record Read : Type 0 where
   pub reply : Answer
   pub list : List ℕ
 
--- an answer and a list, as an outcome
 abbrev pub outcome : Answer → List ℕ → Read
 outcome a l = record { reply = a; list = l }
 
