@@ -1,10 +1,10 @@
 -- The cases of the block hold of the definitions that the contracts cite.
-use Prim.Native.Nat.{ℕ, _+_, _*_}
+use Prim.Native.Nat.{ℕ, _+_, _*_, _-_}
 use mathlib.Core.Path.{_≡_, refl}
 use mathlib.Core.List.{[], _∷_, _++_, map, flatMap}
-use lib.ListN.{replicate}
+use lib.ListN.{length, replicate}
 use Rattle.base.specs.Lists.{part, every, any, upTo}
-use Rattle.block.specs.Format.{blockSize, checkPlace, checkWords}
+use Rattle.block.specs.Format.{blockSize, checkPlace, checkWords, markFirst, markSecond}
 use Rattle.block.specs.Answers.{answer, done, firstOf, answerOf}
 use Rattle.block.specs.Record.{taskBy, wordBytes, taskOf, recordOf, taskFrom, numbersOf}
 use Rattle.block.specs.Checks.{kindOn, taskChecks, alike}
@@ -31,7 +31,7 @@ unfolding taskOf recordOf taskFrom numbersOf
 shown = (refl, refl, refl, refl)
 
 -- the bytes of a head, of a body without tasks, and of a word
-pub shown-head : (headOf 1 513 30 ≡ 77 ∷ 84 ∷ 1 ∷ 30 ∷ 1 ∷ 2 ∷ 0 ∷ 0 ∷ []) × (modeNumber (headOf 1 513 30) ≡ 513) × (bodyOf 1 513 [] ≡ headOf 1 513 0 ++ replicate 500 0) × (wordBytes 67305985 ≡ 1 ∷ 2 ∷ 3 ∷ 4 ∷ []) × (wordBytes 4294967295 ≡ replicate 4 255)
+pub shown-head : (headOf 1 513 30 ≡ markFirst ∷ markSecond ∷ 1 ∷ 30 ∷ 1 ∷ 2 ∷ 0 ∷ 0 ∷ []) × (modeNumber (headOf 1 513 30) ≡ 513) × (bodyOf 1 513 [] ≡ headOf 1 513 0 ++ replicate 500 0) × (wordBytes 67305985 ≡ 1 ∷ 2 ∷ 3 ∷ 4 ∷ []) × (wordBytes 4294967295 ≡ replicate 4 255)
 unfolding headOf bodyOf flatMap
 shown-head = (refl, refl, refl, refl, refl)
 
@@ -41,8 +41,8 @@ unfolding wordSum
 shown-check = (refl, refl, refl, refl)
 
 -- a list has room for the entries, and the number behind them stays
-pub shown-room : (filled 1 (holds 513 (shownTask ∷ [])) (replicate 6 9) .reply ≡ answer 8 2 0 0) × (filled 1 (holds 513 (shownTask ∷ [])) (replicate 7 9) .reply ≡ answer 0 1 1 513)
-    × (filled 1 (holds 513 (shownTask ∷ [])) (replicate 8 9) .list ≡ shownNumbers ++ (9 ∷ []))
+pub shown-room : (filled 1 (holds 513 (shownTask ∷ [])) (replicate (length shownNumbers - 1) 9) .reply ≡ answer 8 2 0 0) × (filled 1 (holds 513 (shownTask ∷ [])) (replicate (length shownNumbers) 9) .reply ≡ answer 0 1 1 513)
+    × (filled 1 (holds 513 (shownTask ∷ [])) (replicate (length shownNumbers + 1) 9) .list ≡ shownNumbers ++ (9 ∷ []))
 unfolding numbersOf flatMap
 shown-room = (refl, refl, refl)
 

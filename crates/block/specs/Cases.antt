@@ -6,7 +6,7 @@ use Rattle.block.specs.declared.Task.{Task}
 use Rattle.block.specs.declared.Answer.{Answer}
 use Rattle.block.specs.declared.Verdict.{Verdict}
 use Rattle.block.specs.declared.Verdict.the-variants.{Passed}
-use Rattle.block.specs.Format.{listSize}
+use Rattle.block.specs.Format.{markFirst, markSecond, listSize}
 use Rattle.block.specs.Record.{taskBy}
 use Rattle.block.specs.Answers.{answer, firstOf, answerOf}
 use Rattle.block.specs.Checks.{taskChecks, recordChecks, numberChecks, doubleCheck}
@@ -89,7 +89,7 @@ ofList side x y z = listVerdict side (x ++ y ++ z) 512
 
 -- the first so many of a block without tasks and a zero behind it
 abbrev pub ofSize : ℕ → ℕ → Verdict
-ofSize side n = blockVerdict side (take n (77 ∷ 84 ∷ side ∷ (replicate 505 0 ++ (77 ∷ 84 ∷ side ∷ 0 ∷ 0 ∷ []))))
+ofSize side n = blockVerdict side (take n (markFirst ∷ markSecond ∷ side ∷ (replicate 505 0 ++ (markFirst ∷ markSecond ∷ side ∷ 0 ∷ 0 ∷ []))))
 
 unfoldable pub cases : List Case
 cases =
