@@ -46,6 +46,6 @@ pub shown-room : (filled 1 (holds 513 (shownTask ∷ [])) (replicate (length sho
 unfolding numbersOf flatMap
 shown-room = (refl, refl, refl)
 
--- the thirty places of a table without tasks are zero; such a table and mode 0 stand beside a refusal
-pub shown-table : (tableOf [] .tasks ≡ replicate 30 (taskBy 0 0 0 0 0 0 0)) × (loaded (spoilt (answer 3 0 0 0)) ≡ record { answer = answer 3 0 0 0; mode = 0; table = tableOf [] })
+-- the places of a table behind its tasks are zero, thirty in all; a table without tasks and mode 0 stand beside a refusal
+pub shown-table : (tableOf (shownTask ∷ []) .tasks ≡ shownTask ∷ replicate 29 (taskBy 0 0 0 0 0 0 0)) × (loaded (spoilt (answer 3 0 0 0)) ≡ record { answer = answer 3 0 0 0; mode = 0; table = tableOf [] })
 shown-table = (refl, refl)

@@ -45,9 +45,9 @@ answerExpected c = c .expected
 abbrev pub ofTask : ℕ → ℕ → ℕ → ℕ → ℕ → ℕ → ℕ → Verdict
 ofTask side k kind T D C Y = firstOf (taskChecks side k (taskBy kind 10 300 T D C Y))
 
--- record k of a side, good but for its last bytes
-abbrev pub endingIn : ℕ → ℕ → ℕ → List ℕ → Verdict
-endingIn side k kind bytes = firstOf (recordChecks side k (kind ∷ 10 ∷ 44 ∷ 1 ∷ 232 ∷ 3 ∷ 132 ∷ 3 ∷ 7 ∷ 1 ∷ 0 ∷ 0 ∷ bytes))
+-- record k of a side by kind and the high byte of Y, good but for its last bytes
+abbrev pub endingIn : ℕ → ℕ → ℕ → ℕ → List ℕ → Verdict
+endingIn side k kind y bytes = firstOf (recordChecks side k (kind ∷ 10 ∷ 44 ∷ 1 ∷ 232 ∷ 3 ∷ 132 ∷ 3 ∷ 7 ∷ 1 ∷ 0 ∷ y ∷ bytes))
 
 -- entry k of a side, good but for the size of a number
 abbrev pub ofEntry : ℕ → ℕ → ℕ → ℕ → ℕ → ℕ → ℕ → Verdict
@@ -96,13 +96,13 @@ cases =
     -- kinds by side
     passes (ofTask 0 0 0 1000 900 7 0) ∷ passes (ofTask 0 1 1 1000 900 7 0) ∷ refuses (ofTask 0 3 2 1000 900 7 0) 5 0 3
     ∷ refuses (ofTask 1 4 0 1000 900 7 0) 5 1 4 ∷ refuses (ofTask 1 4 1 1000 900 7 0) 5 1 4 ∷ passes (ofTask 1 4 2 1000 900 7 0) ∷ refuses (ofTask 1 4 3 1000 900 7 0) 5 1 4
-    -- D = T and D = T + 1, C = D and C = D + 1, C = 0, T = 0, and Y by side
-    ∷ passes (ofTask 0 3 0 1000 1000 7 0) ∷ refuses (ofTask 0 3 0 1000 1001 7 0) 5 0 3 ∷ refuses (ofTask 1 4 2 1000 1001 7 0) 5 1 4
+    -- the least task; D = T and D = T + 1, C = D and C = D + 1, C = 0, T = 0, and Y by side
+    ∷ passes (ofTask 0 3 0 1 1 1 0) ∷ passes (ofTask 0 3 0 1000 1000 7 0) ∷ refuses (ofTask 0 3 0 1000 1001 7 0) 5 0 3 ∷ refuses (ofTask 1 4 2 1000 1001 7 0) 5 1 4
     ∷ passes (ofTask 0 3 0 1000 900 900 0) ∷ refuses (ofTask 0 3 0 1000 900 901 0) 5 0 3 ∷ refuses (ofTask 1 4 2 1000 900 901 0) 5 1 4
     ∷ refuses (ofTask 0 3 0 1000 900 0 0) 5 0 3 ∷ refuses (ofTask 1 4 2 1000 900 0 0) 5 1 4 ∷ refuses (ofTask 0 3 0 0 0 0 0) 5 0 3 ∷ refuses (ofTask 1 4 2 0 0 0 0) 5 1 4
     ∷ refuses (ofTask 0 3 0 1000 900 7 1) 5 0 3 ∷ passes (ofTask 1 4 2 1000 900 7 65535)
     -- the four zero bytes
-    ∷ passes (endingIn 1 4 2 (0 ∷ 0 ∷ 0 ∷ 0 ∷ [])) ∷ refuses (endingIn 1 4 2 (1 ∷ 0 ∷ 0 ∷ 0 ∷ [])) 5 1 4 ∷ refuses (endingIn 0 3 1 (0 ∷ 0 ∷ 0 ∷ 1 ∷ [])) 5 0 3
+    ∷ passes (endingIn 1 4 2 2 (0 ∷ 0 ∷ 0 ∷ 0 ∷ [])) ∷ refuses (endingIn 1 4 2 2 (1 ∷ 0 ∷ 0 ∷ 0 ∷ [])) 5 1 4 ∷ refuses (endingIn 0 3 1 0 (0 ∷ 0 ∷ 0 ∷ 1 ∷ [])) 5 0 3
     -- numbers of an entry that fit their fields
     ∷ passes (ofEntry 1 4 2 255 65535 65535 65535) ∷ refuses (ofEntry 1 4 258 10 300 1000 0) 5 1 4 ∷ refuses (ofEntry 0 3 0 256 300 1000 0) 5 0 3
     ∷ refuses (ofEntry 1 4 2 10 65536 1000 0) 5 1 4 ∷ refuses (ofEntry 1 4 2 10 300 65536 0) 5 1 4 ∷ refuses (ofEntry 1 4 2 10 300 1000 65536) 5 1 4
