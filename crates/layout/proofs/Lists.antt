@@ -16,7 +16,7 @@ use Rattle.block.specs.Format.{blockSize, listSize, mostTasks}
 use Rattle.block.specs.Record.{taskFrom, numbersOf}
 use Rattle.block.specs.Answers.{refusal, firstOf}
 use Rattle.block.specs.Checks.{numberChecks, noTask}
-use Rattle.block.specs.Block.{listOf, numbersPart, tasksFrom, tasksOf, eachEntry, eachDouble, listHead, listVerdict}
+use Rattle.block.specs.Block.{listOf, numbersPart, tasksFrom, tasksOf, eachEntry, eachDouble, listHead, listVerdict, blockOf, wrote, writeOf}
 use Rattle.block.specs.Legal.{Rules, Legal, Small, AllSmall}
 use Rattle.block.proofs.Verdicts.{refuse-passed, first-on, first-left, first-right, first-at, each-all}
 use Rattle.block.proofs.Reading.{task-rules, other-number, other-priority}
@@ -135,3 +135,8 @@ module _ (side : ℕ) (xs : List Task) (one : side ≤ 1) (legal : Legal side xs
       first-on (listHead side (length (listOf xs)) blockSize ++ eachEntry side (listOf xs) (length (listOf xs) / listSize)) (eachDouble side (tasksOf (listOf xs)))
       (first-on _ _ (head-passes (listOf xs) (list-length xs)) ∙ rw (sized xs) entries-pass)
       ∙ rw (tasks-again xs) (legal-doubles side xs legal)
+
+  -- the writer takes it
+  pub legal-written : (mode : ℕ) → writeOf side mode (listOf xs) blockSize ≡ wrote (blockOf side mode xs)
+  unfolding writeOf
+  legal-written mode = rw (legal-list, tasks-again xs)
