@@ -25,7 +25,7 @@ fn read_part(buf: &mut [u8], n: usize) -> usize
 // Prints the lines of an input and a dot, and answers whether they were written.
 fn answer(input: &[u8]) -> bool {
     let mut out = [0u8; render::MOST_TEXT + 2];
-    let none: [u32; 0] = [];
+    let none: [u64; 0] = [];
     let end = render::render(input, &mut out);
     let all = lines::put_line(&mut out, end, b".", &none);
     io::write_all(STDOUT_FILENO, &out[0..all])

@@ -35,7 +35,12 @@ fn put_task(text: &mut [u8], at: usize, x: Task, first: u32, second: u32, third:
     ensures { λ _. ⌜ now (text .exit) ≡ put (now (text .entry)) at (taskLine x first second third) ⌝ }
 {
     let letter = [letter_of(x)];
-    let numbers = [base::whole(x.number), first, second, third];
+    let numbers = [
+        base::wider(x.number),
+        first as u64,
+        second as u64,
+        third as u64,
+    ];
     lines::put_line(text, at, &letter, &numbers)
 }
 
@@ -62,7 +67,7 @@ fn put_done(text: &mut [u8], a: u16, b: u16, olds: Table, news: Table, report: &
     ensures { λ r. ⌜ (r ≡ length (doneLines a b (tasksOf olds) (tasksOf news) (now (report .entry)))) × (r ≤ mostText) ⌝ }
     ensures { λ _. ⌜ now (text .exit) ≡ put (now (text .entry)) 0 (doneLines a b (tasksOf olds) (tasksOf news) (now (report .entry))) ⌝ }
 {
-    let modes = [base::whole(a), base::whole(b)];
+    let modes = [base::wider(a), base::wider(b)];
     let n = olds.count;
     let first = lines::put_line(text, 0, b"change", &modes);
     let middle = put_tasks(text, first, olds, 0, report);
@@ -74,7 +79,12 @@ fn put_refusal(text: &mut [u8], answer: Answer) -> usize
     ensures { λ r. ⌜ (r ≡ length (refusedLine answer)) × (r ≤ mostText) ⌝ }
     ensures { λ _. ⌜ now (text .exit) ≡ put (now (text .entry)) 0 (refusedLine answer) ⌝ }
 {
-    let numbers = [answer.code, answer.side, answer.record, answer.detail];
+    let numbers = [
+        answer.code as u64,
+        answer.side as u64,
+        answer.record as u64,
+        answer.detail as u64,
+    ];
     lines::put_line(text, 0, b"refused", &numbers)
 }
 

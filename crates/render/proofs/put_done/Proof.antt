@@ -17,7 +17,7 @@ change-at c =
     let a = c .before .before .before .before .before .before .before .before .args in
     let s = changeLine (a .a) (a .b) in
     let p = c .put-line in
-    let q = change-line (a .a) (a .b) (c .before .before .before .before .before .whole .result) (c .before .before .before .before .whole2 .result) (c .before .before .before .before .before .whole .ensures) (c .before .before .before .before .whole2 .ensures) in
+    let q = change-line (a .a) (a .b) (c .before .before .before .before .before .wider .result) (c .before .before .before .before .wider2 .result) (c .before .before .before .before .before .wider .ensures .0) (c .before .before .before .before .wider2 .ensures .0) in
     let r = change-room (a .a) (a .b) (omega arith) (omega arith) in
     let h : 0 + length s ≤ length (a .text .now) = omega (arith, c .before .before .before .before .before .before .before .before .pre .2) in
     (p .ensures .0 ∙ ap (next (a .text .now) 0) q ∙ next-fits (a .text .now) 0 s h, p .ensures .1 ∙ ap (written (a .text .now) 0) q ∙ written-fits (a .text .now) 0 s h, r)
