@@ -1,5 +1,5 @@
 -- Laws of the printed lines: one task more, how long they get, and what writing them does.
-use Prim.Native.Nat.{ℕ, zero, suc, _+_, _*_, _-_, _≤_, _<_, min}
+use Prim.Native.Nat.{ℕ, suc, _+_, _*_, _-_, _≤_, _<_, min}
 use mathlib.Core.Path.{_≡_, refl, sym, ap, subst, _∙_}
 use mathlib.Core.Logic.{⊎-elim}
 use mathlib.Core.List.{List, [], _∷_, _++_, append-assoc, append-nil}
@@ -15,7 +15,7 @@ use Rattle.lines.proofs.Decimal.{five-digits, ten-digits}
 use Rattle.lines.proofs.Line.{line-some}
 use lib.Dec.{eqb}
 use Rattle.block.specs.declared.Answer.{Answer}
-use Rattle.window.specs.Order.{kindAt}
+use Rattle.lines.specs.Words.{changeWord, changeLine, letterAt}
 use Rattle.lines.proofs.Put.{put-more, put-front}
 use Rattle.block.specs.declared.Task.{Task}
 use Rattle.block.specs.declared.Table.{Table}
@@ -24,7 +24,7 @@ use Rattle.block.specs.declared.Loaded.{Loaded}
 use Rattle.block.specs.Block.{Reading, holds, spoilt, readingOf, loaded, loadedOf}
 use Rattle.pair.specs.Analysis.{Analysis, analyseOf}
 use Rattle.base.proofs.Search.{le-or-lt, either}
-use Rattle.render.specs.Printed.{oldBlock, newBlock, mostNumbers, found, modeHeld, tasksHeld, letterBy, letterOf, changeWord, refusedWord, refusedLine, changeLine, taskLine, taskLines, doneLines, linesOf, printed, tasksOf, Whole}
+use Rattle.render.specs.Printed.{oldBlock, newBlock, mostNumbers, found, modeHeld, tasksHeld, refusedWord, refusedLine, taskLine, taskLines, doneLines, linesOf, printed, tasksOf, Whole}
 
 -- ---- the tasks' lines
 
@@ -67,28 +67,13 @@ pub task-room : (x : Task) (a b c : ℕ) → x .number < 65536 → a < 429496729
 unfolding taskLine lineOf restOf spaced
 task-room x a b c hx ha hb hc = simp length-append (omega (arith, five-digits (x .number) (omega arith), ten-digits a ha, ten-digits b hb, ten-digits c hc))
 
-pub change-room : (a b : ℕ) → a < 65536 → b < 65536 → length (changeLine a b) ≤ 19
-unfolding changeLine lineOf restOf spaced
-change-room a b ha hb = simp length-append (omega (arith, five-digits a (omega arith), five-digits b (omega arith)))
-
 pub refused-room : (a : Answer) → a .code < 4294967296 → a .side < 4294967296 → a .«record» < 4294967296 → a .detail < 4294967296 → length (refusedLine a) ≤ 52
 unfolding refusedLine lineOf restOf spaced
 refused-room a hc hs hr hd = simp length-append (omega (arith, ten-digits (a .code) hc, ten-digits (a .side) hs, ten-digits (a .«record») hr, ten-digits (a .detail) hd))
 
--- ---- the letter
-
-pub letter-new : (k : ℕ) → (k ≡ 0 → ⊥) → (k ≡ 1 → ⊥) → letterBy (kindAt k) ≡ 110
-letter-new zero a b = absurd (a refl)
-letter-new (suc zero) a b = absurd (b refl)
-letter-new (suc (suc k)) a b = refl
-
-pub task-line : (x : Task) (a b c letter number : ℕ) → letter ≡ letterOf x → number ≡ x .number → lineOf (letter ∷ []) (number ∷ a ∷ b ∷ c ∷ []) ≡ taskLine x a b c
+pub task-line : (x : Task) (a b c letter number : ℕ) → letter ≡ letterAt (x .kind) → number ≡ x .number → lineOf (letter ∷ []) (number ∷ a ∷ b ∷ c ∷ []) ≡ taskLine x a b c
 unfolding taskLine
 task-line x a b c letter number e f = rw (e, f)
-
-pub change-line : (a b m n : ℕ) → m ≡ a → n ≡ b → lineOf changeWord (m ∷ n ∷ []) ≡ changeLine a b
-unfolding changeLine
-change-line a b m n e f = rw (e, f)
 
 -- ---- the whole text
 

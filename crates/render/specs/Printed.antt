@@ -6,12 +6,12 @@ use mathlib.Core.List.{List, [], _∷_, _++_}
 use lib.ListN.{length, getD, take, drop, replicate}
 use lib.Dec.{eqb}
 use Rattle.lines.specs.Line.{lineOf}
+use Rattle.lines.specs.Words.{changeLine, letterAt}
 use Rattle.block.specs.declared.Task.{Task}
 use Rattle.block.specs.declared.Table.{Table}
 use Rattle.block.specs.declared.Answer.{Answer}
 use Rattle.block.specs.Format.{blockSize, mostTasks}
 use Rattle.block.specs.Block.{Reading, holds, spoilt, readingOf}
-use Rattle.window.specs.Order.{Kind, completed, aborted, new, kindOf}
 use Rattle.rows.specs.Rows.{rowSize}
 use Rattle.pair.specs.Analysis.{Analysis, analyseOf}
 
@@ -49,25 +49,9 @@ refusedWord = 114 ∷ 101 ∷ 102 ∷ 117 ∷ 115 ∷ 101 ∷ 100 ∷ []
 unfoldable pub refusedLine : Answer → List ℕ
 refusedLine a = lineOf refusedWord (a .code ∷ a .side ∷ a .«record» ∷ a .detail ∷ [])
 
--- c h a n g e, then the old and the new mode number
-abbrev pub changeWord : List ℕ
-changeWord = 99 ∷ 104 ∷ 97 ∷ 110 ∷ 103 ∷ 101 ∷ []
-
-unfoldable pub changeLine : ℕ → ℕ → List ℕ
-changeLine a b = lineOf changeWord (a ∷ b ∷ [])
-
--- o for a completed task, a for an aborted one, n for a new one
-abbrev pub letterBy : Kind → ℕ
-letterBy completed = 111
-letterBy aborted = 97
-letterBy new = 110
-
-unfoldable pub letterOf : Task → ℕ
-letterOf x = letterBy (kindOf x)
-
 -- a task's line: its letter, its number, the three numbers of its row
 unfoldable pub taskLine : Task → ℕ → ℕ → ℕ → List ℕ
-taskLine x first second third = lineOf (letterOf x ∷ []) (x .number ∷ first ∷ second ∷ third ∷ [])
+taskLine x first second third = lineOf (letterAt (x .kind) ∷ []) (x .number ∷ first ∷ second ∷ third ∷ [])
 
 -- a line a task; the first task's row is row j of the rows
 unfoldable pub taskLines : List ℕ → ℕ → List Task → List ℕ

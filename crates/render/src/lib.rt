@@ -3,7 +3,7 @@ ghost use mathlib.Core.Path.{_≡_};
 ghost use Prim.Native.Nat.{_+_, _*_, _≤_, _<_};
 ghost use lib.ListN.{length};
 ghost use Rattle.lines.specs.Put.{put, next, written};
-ghost use Rattle.render.specs.Printed.{printed, refusedLine, doneLines, taskLine, taskLines, letterOf, tasksOf, Whole, mostNumbers, mostLine, mostText};
+ghost use Rattle.render.specs.Printed.{printed, refusedLine, doneLines, taskLine, taskLines, tasksOf, Whole, mostNumbers, mostLine, mostText};
 ghost use Rattle.rows.specs.Rows.{rowSize};
 use block::Answer;
 use block::Table;
@@ -17,24 +17,12 @@ const MOST_NUMBERS: usize = 180;
 
 pub const MOST_TEXT: usize = 2479;
 
-fn letter_of(x: Task) -> u8
-    ensures { λ r. ⌜ r ≡ letterOf x ⌝ }
-{
-    if x.kind == 0 {
-        return b'o';
-    }
-    if x.kind == 1 {
-        return b'a';
-    }
-    b'n'
-}
-
 fn put_task(text: &mut [u8], at: usize, x: Task, first: u32, second: u32, third: u32) -> usize
     requires { ⌜ at + mostLine ≤ length (now text) ⌝ }
     ensures { λ r. ⌜ (r ≡ at + length (taskLine x first second third)) × (r ≤ at + mostLine) ⌝ }
     ensures { λ _. ⌜ now (text .exit) ≡ put (now (text .entry)) at (taskLine x first second third) ⌝ }
 {
-    let letter = [letter_of(x)];
+    let letter = [lines::letter_of(x.kind)];
     let numbers = [
         base::wider(x.number),
         first as u64,

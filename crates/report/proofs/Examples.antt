@@ -6,6 +6,7 @@ use Rattle.base.specs.Sums.{sumOf}
 use Rattle.base.specs.Numbers.{ceil, jobsIn, cutIn}
 use Rattle.base.specs.Search.{firstWhere, windowOf}
 use Rattle.lines.specs.Line.{digits, decimal, spaced, restOf, lineOf}
+use Rattle.lines.specs.Words.{changeLine, letterAt}
 use Rattle.block.specs.Record.{taskOf, recordOf}
 use Rattle.block.specs.Answers.{firstOf}
 use Rattle.block.specs.Checks.{alike, taskChecks, kindOn}
@@ -15,9 +16,9 @@ use Rattle.window.specs.Demand.{sumAbove, steadyDemand, phaseDemand, requestDem
 use Rattle.window.specs.Worst.{takeOf, nextOf, sweep}
 use Rattle.row.specs.Row.{rowOf}
 use Rattle.pair.specs.Analysis.{analyseOf, pairOf}
-use Rattle.render.specs.Printed.{oldBlock, newBlock, found, modeHeld, tasksHeld, refusedLine, changeLine, letterOf, taskLine, taskLines, doneLines, linesOf, printed}
+use Rattle.render.specs.Printed.{oldBlock, newBlock, found, modeHeld, tasksHeld, refusedLine, taskLine, taskLines, doneLines, linesOf, printed}
 use Rattle.report.specs.Examples.{inputA, linesA, lineC, lineLong}
 
 pub examples : (printed (inputA 20) ≡ linesA) × (printed (inputA 8) ≡ lineC) × (printed (inputA 20 ++ (0 ∷ [])) ≡ lineLong)
-unfolding printed oldBlock newBlock found inputA linesA lineC lineLong blockOf headOf bodyOf recordOf wordSum readingOf blockVerdict sealChecks headChecks headed taskChecks kindOn taskOf every any alike analyseOf pairOf linesOf doneLines changeLine refusedLine taskLines taskLine letterOf modeHeld tasksHeld lineOf restOf spaced decimal digits upTo firstOf rowOf steadyDemand phaseDemand requestDemand sumAbove sumOf rank jobsIn cutIn ceil windowOf firstWhere sweep nextOf takeOf flatMap
+unfolding printed oldBlock newBlock found inputA linesA lineC lineLong blockOf headOf bodyOf recordOf wordSum readingOf blockVerdict sealChecks headChecks headed taskChecks kindOn taskOf every any alike analyseOf pairOf linesOf doneLines changeLine refusedLine taskLines taskLine letterAt modeHeld tasksHeld lineOf restOf spaced decimal digits upTo firstOf rowOf steadyDemand phaseDemand requestDemand sumAbove sumOf rank jobsIn cutIn ceil windowOf firstWhere sweep nextOf takeOf flatMap
 examples = (refl, refl, refl)

@@ -4,8 +4,10 @@ use mathlib.Core.Path.{_≡_, sym, ap, _∙_}
 use lib.ListN.{length, length-map}
 use Rattle.lines.specs.Put.{next, written, put}
 use Rattle.lines.proofs.Put.{next-fits, written-fits}
-use Rattle.render.specs.Printed.{changeLine, taskLines, tasksOf}
-use Rattle.render.proofs.Printed.{change-line, change-room, few, tasks-length, done-long, done-built}
+use Rattle.lines.specs.Words.{changeLine}
+use Rattle.lines.proofs.Words.{change-line, change-room}
+use Rattle.render.specs.Printed.{taskLines, tasksOf}
+use Rattle.render.proofs.Printed.{few, tasks-length, done-long, done-built}
 use borrow.Author.Needs.{needs}
 use native.Mathlib.Omega.{arith}
 use Rattle.render.proofs.put_done.Statement.{statement}
