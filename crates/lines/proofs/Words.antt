@@ -5,10 +5,10 @@ use mathlib.Core.List.{[], _∷_}
 use native.Mathlib.Omega.{arith}
 use lib.ListN.{length, length-append}
 use Rattle.lines.specs.Line.{spaced, restOf, lineOf}
-use Rattle.lines.specs.Words.{changeWord, changeLine, letterAt}
+use Rattle.lines.specs.Words.{changeWord, changeLine, mostChange, letterAt}
 use Rattle.lines.proofs.Decimal.{five-digits}
 
-pub change-room : (a b : ℕ) → a < 65536 → b < 65536 → length (changeLine a b) ≤ 19
+pub change-room : (a b : ℕ) → a < 65536 → b < 65536 → length (changeLine a b) ≤ mostChange
 unfolding changeLine lineOf restOf spaced
 change-room a b ha hb = simp length-append (omega (arith, five-digits a (omega arith), five-digits b (omega arith)))
 

@@ -10,6 +10,10 @@ changeWord = 99 ∷ 104 ∷ 97 ∷ 110 ∷ 103 ∷ 101 ∷ []
 unfoldable pub changeLine : ℕ → ℕ → List ℕ
 changeLine a b = lineOf changeWord (a ∷ b ∷ [])
 
+-- no such line of two modes is longer
+abbrev pub mostChange : ℕ
+mostChange = 19
+
 -- a task's letter by the number of its kind: o for a completed task, a for an aborted one, n for a new one
 unfoldable pub letterAt : ℕ → ℕ
 letterAt zero = 111

@@ -3,116 +3,130 @@ use Prim.Native.Nat.{ℕ, suc, _+_, _*_, _-_, _≤_, _<_, min}
 use mathlib.Core.Path.{_≡_, refl, sym, ap, subst, _∙_}
 use mathlib.Core.Logic.{⊎-elim}
 use mathlib.Core.List.{List, [], _∷_, _++_, append-assoc, append-nil}
-use lib.ListN.{length, getD, take, drop, replicate, length-append, length-drop, length-replicate, drop-of-length-le}
-use lib.Seq.{take-suc, take-all, take-at, length-take-le}
+use lib.ListN.{length, getD, set, take, drop, replicate, length-append, length-drop, drop-of-length-le}
+use lib.Seq.{take-suc, take-all, length-take-le}
+use lib.Dec.{eqb}
 use borrow.Author.Tests.{eq-eqb, ne-eqb}
 use native.Mathlib.Omega.{arith}
 use native.Mathlib.Nat.{add-zero}
 use native.Mathlib.Numerals.{add-one}
+use Rattle.base.proofs.Search.{le-or-lt, either}
+use Rattle.base.proofs.Lists.{over-more}
 use Rattle.lines.specs.Put.{put}
-use Rattle.lines.specs.Line.{spaced, restOf, lineOf}
-use Rattle.lines.proofs.Decimal.{five-digits, ten-digits}
-use Rattle.lines.proofs.Line.{line-some}
-use lib.Dec.{eqb}
-use Rattle.block.specs.declared.Answer.{Answer}
+use Rattle.lines.specs.Line.{decimal, spaced, restOf, lineOf}
 use Rattle.lines.specs.Words.{changeWord, changeLine, letterAt}
 use Rattle.lines.proofs.Put.{put-more, put-front}
+use Rattle.lines.proofs.Decimal.{five-digits, ten-digits}
+use Rattle.lines.proofs.Line.{spaced-longer, rest-long, line-long, line-some}
 use Rattle.block.specs.declared.Task.{Task}
-use Rattle.block.specs.declared.Table.{Table}
-use Rattle.block.specs.Checks.{noTask}
+use Rattle.block.specs.declared.Answer.{Answer}
 use Rattle.block.specs.declared.Loaded.{Loaded}
-use Rattle.block.specs.Block.{Reading, holds, spoilt, readingOf, loaded, loadedOf}
+use Rattle.block.specs.Format.{blockSize}
+use Rattle.block.specs.Checks.{noTask}
+use Rattle.block.specs.Block.{Reading, holds, spoilt, readingOf, listed, loaded, loadedOf}
+use Rattle.block.specs.Legal.{Legal, Tabled}
+use Rattle.block.proofs.Tables.{table-listed, table-tabled}
+use Rattle.block.proofs.Reading.{reading-legal}
+use Rattle.rows.specs.Rows.{reportRoom}
 use Rattle.pair.specs.Analysis.{Analysis, analyseOf}
-use Rattle.base.proofs.Search.{le-or-lt, either}
-use Rattle.render.specs.Printed.{oldBlock, newBlock, mostNumbers, found, modeHeld, tasksHeld, refusedWord, refusedLine, taskLine, taskLines, doneLines, linesOf, printed, tasksOf, Whole}
+use Rattle.render.specs.Printed.{oldBlock, newBlock, found, modeHeld, tasksHeld, refusedWord, refusedLine, taskLine, rowPart, taskLines, doneLines, linesOf, printed, mostLine}
 
 -- ---- the tasks' lines
 
-lines-append : (rows : List ℕ) (j : ℕ) (xs ys : List Task) → taskLines rows j (xs ++ ys) ≡ taskLines rows j xs ++ taskLines rows (j + length xs) ys
+lines-append : (report : List ℕ) (j : ℕ) (xs ys : List Task) → taskLines report j (xs ++ ys) ≡ taskLines report j xs ++ taskLines report (j + length xs) ys
 unfolding taskLines
-lines-append rows j [] ys = rw add-zero
-lines-append rows j (x ∷ xs) ys =
+lines-append report j [] ys = rw add-zero
+lines-append report j (x ∷ xs) ys =
     let e : suc j + length xs ≡ j + length (x ∷ xs) = omega arith in
-    let r = lines-append rows (suc j) xs ys ∙ ap (λ (k : ℕ). taskLines rows (suc j) xs ++ taskLines rows k ys) e in
-    rw r (sym (append-assoc (taskLine x (getD rows (3 * j) 0) (getD rows (3 * j + 1) 0) (getD rows (3 * j + 2) 0)) (taskLines rows (suc j) xs) (taskLines rows (j + length (x ∷ xs)) ys)))
+    let r = lines-append report (suc j) xs ys ∙ ap (λ (k : ℕ). taskLines report (suc j) xs ++ taskLines report k ys) e in
+    rw r (sym (append-assoc (taskLine x (rowPart report j)) (taskLines report (suc j) xs) (taskLines report (j + length (x ∷ xs)) ys)))
 
 -- the line of task k of a list
 abbrev pub lineAt : List ℕ → ℕ → List Task → ℕ → List ℕ
-lineAt rows j xs k = taskLine (getD xs k noTask) (getD rows (3 * (j + k)) 0) (getD rows (3 * (j + k) + 1) 0) (getD rows (3 * (j + k) + 2) 0)
+lineAt report j xs k = taskLine (getD xs k noTask) (rowPart report (j + k))
 
-lines-one : (rows : List ℕ) (j : ℕ) (x : Task) → taskLines rows j (x ∷ []) ≡ taskLine x (getD rows (3 * j) 0) (getD rows (3 * j + 1) 0) (getD rows (3 * j + 2) 0)
+lines-one : (report : List ℕ) (j : ℕ) (x : Task) → taskLines report j (x ∷ []) ≡ taskLine x (rowPart report j)
 unfolding taskLines
-lines-one rows j x = append-nil (taskLine x (getD rows (3 * j) 0) (getD rows (3 * j + 1) 0) (getD rows (3 * j + 2) 0))
+lines-one report j x = append-nil (taskLine x (rowPart report j))
 
-lines-more : (rows : List ℕ) (j : ℕ) (xs : List Task) (k : ℕ) → k < length xs → taskLines rows j (take (k + 1) xs) ≡ taskLines rows j (take k xs) ++ lineAt rows j xs k
-lines-more rows j xs k h =
+lines-more : (report : List ℕ) (j : ℕ) (xs : List Task) (k : ℕ) → k < length xs → taskLines report j (take (k + 1) xs) ≡ taskLines report j (take k xs) ++ lineAt report j xs k
+lines-more report j xs k h =
     let n : length (take k xs) ≡ k = length-take-le k xs (omega arith) in
     rw (add-one, take-suc xs k noTask h)
-    (lines-append rows j (take k xs) (getD xs k noTask ∷ [])
-    ∙ ap (λ (m : ℕ). taskLines rows j (take k xs) ++ taskLines rows (j + m) (getD xs k noTask ∷ [])) n
-    ∙ ap (λ (l : List ℕ). taskLines rows j (take k xs) ++ l) (lines-one rows (j + k) (getD xs k noTask)))
+    (lines-append report j (take k xs) (getD xs k noTask ∷ [])
+    ∙ ap (λ (m : ℕ). taskLines report j (take k xs) ++ taskLines report (j + m) (getD xs k noTask ∷ [])) n
+    ∙ ap (λ (l : List ℕ). taskLines report j (take k xs) ++ l) (lines-one report (j + k) (getD xs k noTask)))
 
 -- a turn of the loop that prints the tasks of a table
-module _ (rows : List ℕ) (j : ℕ) (xs : List Task) (k : ℕ) (h : k < length xs) where
-  pub lines-longer : length (taskLines rows j (take (k + 1) xs)) ≡ length (taskLines rows j (take k xs)) + length (lineAt rows j xs k)
-  lines-longer = ap length (lines-more rows j xs k h) ∙ length-append (taskLines rows j (take k xs)) (lineAt rows j xs k)
+module _ (report : List ℕ) (j : ℕ) (xs : List Task) (k : ℕ) (h : k < length xs) where
+  pub lines-longer : length (taskLines report j (take (k + 1) xs)) ≡ length (taskLines report j (take k xs)) + length (lineAt report j xs k)
+  lines-longer = ap length (lines-more report j xs k h) ∙ length-append (taskLines report j (take k xs)) (lineAt report j xs k)
 
-  pub put-one-more : (b b₁ b₂ : List ℕ) (at end : ℕ) → at ≤ length b → b₁ ≡ put b at (taskLines rows j (take k xs)) → end ≡ at + length (taskLines rows j (take k xs))
-      → b₂ ≡ put b₁ end (lineAt rows j xs k) → b₂ ≡ put b at (taskLines rows j (take (k + 1) xs))
-  put-one-more b b₁ b₂ at end l e m q = q ∙ rw (e, m) (put-more b at (taskLines rows j (take k xs)) (lineAt rows j xs k) l ∙ ap (put b at) (sym (lines-more rows j xs k h)))
+  pub put-one-more : (b b₁ b₂ : List ℕ) (at end : ℕ) → at ≤ length b → b₁ ≡ put b at (taskLines report j (take k xs)) → end ≡ at + length (taskLines report j (take k xs))
+      → b₂ ≡ put b₁ end (lineAt report j xs k) → b₂ ≡ put b at (taskLines report j (take (k + 1) xs))
+  put-one-more b b₁ b₂ at end l e m q = q ∙ rw (e, m) (put-more b at (taskLines report j (take k xs)) (lineAt report j xs k) l ∙ ap (put b at) (sym (lines-more report j xs k h)))
 
 -- ---- how long the lines get
 
-pub task-room : (x : Task) (a b c : ℕ) → x .number < 65536 → a < 4294967296 → b < 4294967296 → c < 4294967296 → length (taskLine x a b c) ≤ 41
-unfolding taskLine lineOf restOf spaced
-task-room x a b c hx ha hb hc = simp length-append (omega (arith, five-digits (x .number) (omega arith), ten-digits a ha, ten-digits b hb, ten-digits c hc))
+-- a line's numbers as they are filled in: the task's own of at most five digits, then one more of the row of at most ten
+pub number-room : (number : ℕ) → number < 65536 → length (spaced (number ∷ [])) ≤ 6
+unfolding spaced
+number-room number h = simp length-append (omega (arith, five-digits number (omega arith)))
+
+pub row-more : (number v : ℕ) (row l zeros : List ℕ) (i : ℕ) → i < length row → i + 1 < length zeros → v ≡ getD row i 0
+    → l ≡ take (i + 1) (number ∷ row) ++ drop (i + 1) zeros → set l (i + 1) v ≡ take (i + 1 + 1) (number ∷ row) ++ drop (i + 1 + 1) zeros
+row-more number v row l zeros i h k q e =
+    let m : v ≡ getD (number ∷ row) (i + 1) 0 = rw add-one q in
+    rw m (over-more l zeros (number ∷ row) (i + 1) 0 (omega arith) k e)
+
+pub row-room : (number v : ℕ) (row : List ℕ) (i : ℕ) → i < length row → v ≡ getD row i 0 → v < 4294967296
+    → length (spaced (take (i + 1) (number ∷ row))) ≤ 6 + 11 * i → length (spaced (take (i + 1 + 1) (number ∷ row))) ≤ 6 + 11 * (i + 1)
+row-room number v row i h q l e =
+    let m : v ≡ getD (number ∷ row) (i + 1) 0 = rw add-one q in
+    let d : length (decimal (getD (number ∷ row) (i + 1) 0)) ≤ 10 = rw (← m) (ten-digits v l) in
+    omega (arith, spaced-longer (number ∷ row) (i + 1) (omega arith))
+
+-- the line is its letter, its numbers and a line feed
+pub task-line : (x : Task) (row numbers : List ℕ) (letter : ℕ) → letter ≡ letterAt (x .kind) → numbers ≡ x .number ∷ row → lineOf (letter ∷ []) numbers ≡ taskLine x row
+unfolding taskLine
+task-line x row numbers letter e f = rw (e, f)
+
+pub task-room : (x : Task) (row numbers : List ℕ) → numbers ≡ x .number ∷ row → length (spaced numbers) + 2 ≤ mostLine → length (taskLine x row) ≤ mostLine
+unfolding taskLine
+task-room x row numbers e h =
+    omega (arith, line-long (letterAt (x .kind) ∷ []) (x .number ∷ row), rest-long (x .number ∷ row), ap (λ (l : List ℕ). length (spaced l)) e)
 
 pub refused-room : (a : Answer) → a .code < 4294967296 → a .side < 4294967296 → a .«record» < 4294967296 → a .detail < 4294967296 → length (refusedLine a) ≤ 52
 unfolding refusedLine lineOf restOf spaced
 refused-room a hc hs hr hd = simp length-append (omega (arith, ten-digits (a .code) hc, ten-digits (a .side) hs, ten-digits (a .«record») hr, ten-digits (a .detail) hd))
 
-pub task-line : (x : Task) (a b c letter number : ℕ) → letter ≡ letterAt (x .kind) → number ≡ x .number → lineOf (letter ∷ []) (number ∷ a ∷ b ∷ c ∷ []) ≡ taskLine x a b c
-unfolding taskLine
-task-line x a b c letter number e f = rw (e, f)
-
 -- ---- the whole text
 
--- the places behind a table's tasks fill it up, so that it has few
-pub few : (tb : Table) → length (tb .tasks) ≡ 30 → Whole tb → tb .count ≤ 30
-few tb e w = omega arith
-
-pub tasks-length : (tb : Table) → Whole tb → length (tasksOf tb) ≡ tb .count
-tasks-length tb w = length-take-le (tb .count) (tb .tasks) (omega arith)
-
-module _ (a b : ℕ) (olds news : List Task) (rows : List ℕ) where
-  pub done-long : length (doneLines a b olds news rows) ≡ length (changeLine a b) + length (taskLines rows 0 olds) + length (taskLines rows (length olds) news)
+module _ (a b : ℕ) (olds news : List Task) (report : List ℕ) where
+  pub done-long : length (doneLines a b olds news report) ≡ length (changeLine a b) + length (taskLines report 0 olds) + length (taskLines report (length olds) news)
   unfolding doneLines
   done-long = simp length-append (omega arith)
 
   -- three puts, one behind the other, are the text
   pub done-built : (t t₁ t₂ t₃ : List ℕ) (first middle : ℕ)
       → t₁ ≡ put t 0 (changeLine a b) → first ≡ 0 + length (changeLine a b)
-      → t₂ ≡ put t₁ first (taskLines rows 0 olds) → middle ≡ first + length (taskLines rows 0 olds)
-      → t₃ ≡ put t₂ middle (taskLines rows (length olds) news) → t₃ ≡ put t 0 (doneLines a b olds news rows)
+      → t₂ ≡ put t₁ first (taskLines report 0 olds) → middle ≡ first + length (taskLines report 0 olds)
+      → t₃ ≡ put t₂ middle (taskLines report (length olds) news) → t₃ ≡ put t 0 (doneLines a b olds news report)
   unfolding doneLines
   done-built t t₁ t₂ t₃ first middle e₁ f e₂ m e₃ =
-      let p : t₂ ≡ put t 0 (changeLine a b ++ taskLines rows 0 olds) = e₂ ∙ rw (e₁, f) (put-more t 0 (changeLine a b) (taskLines rows 0 olds) (omega arith)) in
-      let k : middle ≡ 0 + length (changeLine a b ++ taskLines rows 0 olds) = simp length-append (omega arith) in
+      let p : t₂ ≡ put t 0 (changeLine a b ++ taskLines report 0 olds) = e₂ ∙ rw (e₁, f) (put-more t 0 (changeLine a b) (taskLines report 0 olds) (omega arith)) in
+      let k : middle ≡ 0 + length (changeLine a b ++ taskLines report 0 olds) = simp length-append (omega arith) in
       e₃
-      ∙ rw (p, k) (put-more t 0 (changeLine a b ++ taskLines rows 0 olds) (taskLines rows (length olds) news) (omega arith))
-      ∙ ap (put t 0) (append-assoc (changeLine a b) (taskLines rows 0 olds) (taskLines rows (length olds) news))
+      ∙ rw (p, k) (put-more t 0 (changeLine a b ++ taskLines report 0 olds) (taskLines report (length olds) news) (omega arith))
+      ∙ ap (put t 0) (append-assoc (changeLine a b) (taskLines report 0 olds) (taskLines report (length olds) news))
 
 -- what is loaded of a block
-pub loaded-whole : (r : Reading) → Whole (loaded r .table)
-loaded-whole (spoilt a) = refl
-loaded-whole (holds mode xs) = simp (length-append, length-replicate) (omega arith)
-
-pub loaded-tasks : (r : Reading) → tasksOf (loaded r .table) ≡ tasksHeld r
+loaded-tasks : (r : Reading) → listed (loaded r .table) ≡ tasksHeld r
 unfolding tasksHeld
 loaded-tasks (spoilt a) = refl
-loaded-tasks (holds mode xs) = take-at xs (replicate (30 - length xs) noTask) (length xs) refl
+loaded-tasks (holds mode xs) = table-listed xs
 
-pub loaded-mode : (r : Reading) → loaded r .mode ≡ modeHeld r
+loaded-mode : (r : Reading) → loaded r .mode ≡ modeHeld r
 unfolding modeHeld
 loaded-mode (spoilt a) = refl
 loaded-mode (holds mode xs) = refl
@@ -122,7 +136,7 @@ module _ (s : Analysis) (o n : Reading) where
   unfolding linesOf
   lines-refused h = rw (ne-eqb (s .reply .code) 0 h)
 
-  pub lines-done : s .reply .code ≡ 0 → linesOf s o n ≡ doneLines (loaded o .mode) (loaded n .mode) (tasksOf (loaded o .table)) (tasksOf (loaded n .table)) (s .report)
+  pub lines-done : s .reply .code ≡ 0 → linesOf s o n ≡ doneLines (loaded o .mode) (loaded n .mode) (listed (loaded o .table)) (listed (loaded n .table)) (s .report)
   unfolding linesOf
   lines-done h = rw (eq-eqb (s .reply .code) 0 h, loaded-tasks o, loaded-tasks n, loaded-mode o, loaded-mode n)
 
@@ -144,16 +158,16 @@ module _ (m n : ℕ) (l : List ℕ) (e : n ≡ min m (length l)) where
       (λ h. let q : n ≡ m = omega arith in ap (λ (k : ℕ). drop k l) q)
       (le-or-lt (length l) m)
 
-module _ (l : List ℕ) (n : ℕ) (e : n ≡ min 512 (length l)) where
+module _ (l : List ℕ) (n : ℕ) (e : n ≡ min blockSize (length l)) where
   pub part-old : take (n - 0) (drop 0 l) ≡ oldBlock l
   unfolding oldBlock
-  part-old = part-front 512 n l e
+  part-old = part-front blockSize n l e
 
   pub part-new : take (length l - n) (drop n l) ≡ newBlock l
   unfolding newBlock
-  part-new = part-back 512 n l e
+  part-new = part-back blockSize n l e
 
-pub found-is : (l o n z : List ℕ) → o ≡ oldBlock l → n ≡ newBlock l → z ≡ replicate mostNumbers 0 → analyseOf o n z ≡ found l
+pub found-is : (l o n z : List ℕ) → o ≡ oldBlock l → n ≡ newBlock l → z ≡ replicate reportRoom 0 → analyseOf o n z ≡ found l
 unfolding found
 found-is l o n z e f g = rw (e, f, g)
 
@@ -164,18 +178,26 @@ module _ (l : List ℕ) (a : Answer) (e : a ≡ found l .reply) where
   unfolding printed
   printed-refused h = lines-refused (found l) (readingOf 0 (oldBlock l)) (readingOf 1 (newBlock l)) (λ z. h (ap (λ (x : Answer). x .code) e ∙ z)) ∙ ap refusedLine (sym e)
 
-  pub printed-done : (rows : List ℕ) (o n : Loaded) → rows ≡ found l .report → a .code ≡ 0 → o ≡ loadedOf 0 (oldBlock l) → n ≡ loadedOf 1 (newBlock l)
-      → printed l ≡ doneLines (o .mode) (n .mode) (tasksOf (o .table)) (tasksOf (n .table)) rows
+  pub printed-done : (report : List ℕ) (o n : Loaded) → report ≡ found l .report → a .code ≡ 0 → o ≡ loadedOf 0 (oldBlock l) → n ≡ loadedOf 1 (newBlock l)
+      → printed l ≡ doneLines (o .mode) (n .mode) (listed (o .table)) (listed (n .table)) report
   unfolding printed loadedOf
-  printed-done rows o n f h p q =
+  printed-done report o n f h p q =
       lines-done (found l) (readingOf 0 (oldBlock l)) (readingOf 1 (newBlock l)) (sym (ap (λ (x : Answer). x .code) e) ∙ h)
-      ∙ ap (λ (x : Loaded). doneLines (x .mode) (loaded (readingOf 1 (newBlock l)) .mode) (tasksOf (x .table)) (tasksOf (loaded (readingOf 1 (newBlock l)) .table)) (found l .report)) (sym p)
-      ∙ ap (λ (x : Loaded). doneLines (o .mode) (x .mode) (tasksOf (o .table)) (tasksOf (x .table)) (found l .report)) (sym q)
-      ∙ ap (doneLines (o .mode) (n .mode) (tasksOf (o .table)) (tasksOf (n .table))) (sym f)
+      ∙ ap (λ (x : Loaded). doneLines (x .mode) (loaded (readingOf 1 (newBlock l)) .mode) (listed (x .table)) (listed (loaded (readingOf 1 (newBlock l)) .table)) (found l .report)) (sym p)
+      ∙ ap (λ (x : Loaded). doneLines (o .mode) (x .mode) (listed (o .table)) (listed (x .table)) (found l .report)) (sym q)
+      ∙ ap (doneLines (o .mode) (n .mode) (listed (o .table)) (listed (n .table))) (sym f)
 
-pub load-whole : (side : ℕ) (b : List ℕ) (o : Loaded) → o ≡ loadedOf side b → Whole (o .table)
+-- the table of a block is one of its side
+pub load-tabled : (side : ℕ) (b : List ℕ) (o : Loaded) → o ≡ loadedOf side b → Tabled side (o .table)
 unfolding loadedOf
-load-whole side b o e = subst (λ (x : Loaded). Whole (x .table)) (sym e) (loaded-whole (readingOf side b))
+load-tabled side b o e = subst (λ (x : Loaded). Tabled side (x .table)) (sym e) (go (readingOf side b) refl)
+  where
+    none : Legal side []
+    none = record { few = omega arith; rules = λ k h. absurd (omega arith); numbers = λ j k l h. absurd (omega arith); priorities = λ j k l h. absurd (omega arith) }
+
+    go : (r : Reading) → readingOf side b ≡ r → Tabled side (loaded r .table)
+    go (spoilt a) q = table-tabled side [] none
+    go (holds mode xs) q = table-tabled side xs (reading-legal side mode b xs q)
 
 -- what stands at the front of the local text
 pub text-front : (t t₁ s : List ℕ) (end : ℕ) → end ≡ length s → t₁ ≡ put t 0 s → take (end - 0) (drop 0 t₁) ≡ s

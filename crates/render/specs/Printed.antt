@@ -1,18 +1,17 @@
 -- What the program prints of an input. Definitions only.
-use Prim.Native.Nat.{ℕ, suc, _+_, _*_, _-_}
-use mathlib.Core.Path.{_≡_}
+use Prim.Native.Nat.{ℕ, suc, _+_, _*_}
 use mathlib.Core.Bool.{cond}
 use mathlib.Core.List.{List, [], _∷_, _++_}
-use lib.ListN.{length, getD, take, drop, replicate}
+use lib.ListN.{length, take, drop, replicate}
 use lib.Dec.{eqb}
+use Rattle.base.specs.Lists.{part}
 use Rattle.lines.specs.Line.{lineOf}
-use Rattle.lines.specs.Words.{changeLine, letterAt}
+use Rattle.lines.specs.Words.{changeLine, mostChange, letterAt}
 use Rattle.block.specs.declared.Task.{Task}
-use Rattle.block.specs.declared.Table.{Table}
 use Rattle.block.specs.declared.Answer.{Answer}
 use Rattle.block.specs.Format.{blockSize, mostTasks}
 use Rattle.block.specs.Block.{Reading, holds, spoilt, readingOf}
-use Rattle.rows.specs.Rows.{rowSize}
+use Rattle.rows.specs.Rows.{rowSize, reportRoom}
 use Rattle.pair.specs.Analysis.{Analysis, analyseOf}
 
 -- ---- the input
@@ -25,11 +24,8 @@ unfoldable pub newBlock : List ℕ → List ℕ
 newBlock input = drop blockSize input
 
 -- the analysis of the two, in a report with room for every row
-abbrev pub mostNumbers : ℕ
-mostNumbers = rowSize * (mostTasks + mostTasks)
-
 unfoldable pub found : List ℕ → Analysis
-found input = analyseOf (oldBlock input) (newBlock input) (replicate mostNumbers 0)
+found input = analyseOf (oldBlock input) (newBlock input) (replicate reportRoom 0)
 
 -- the mode number and the tasks that a block holds; a refused one holds none
 unfoldable pub modeHeld : Reading → ℕ
@@ -49,19 +45,22 @@ refusedWord = 114 ∷ 101 ∷ 102 ∷ 117 ∷ 115 ∷ 101 ∷ 100 ∷ []
 unfoldable pub refusedLine : Answer → List ℕ
 refusedLine a = lineOf refusedWord (a .code ∷ a .side ∷ a .«record» ∷ a .detail ∷ [])
 
--- a task's line: its letter, its number, the three numbers of its row
-unfoldable pub taskLine : Task → ℕ → ℕ → ℕ → List ℕ
-taskLine x first second third = lineOf (letterAt (x .kind) ∷ []) (x .number ∷ first ∷ second ∷ third ∷ [])
+-- a task's line: its letter, its number, its row
+unfoldable pub taskLine : Task → List ℕ → List ℕ
+taskLine x row = lineOf (letterAt (x .kind) ∷ []) (x .number ∷ row)
 
--- a line a task; the first task's row is row j of the rows
+-- row j of a report
+abbrev pub rowPart : List ℕ → ℕ → List ℕ
+rowPart report j = part report (rowSize * j) (rowSize * j + rowSize)
+
+-- a line a task; the first task's row is row j of the report
 unfoldable pub taskLines : List ℕ → ℕ → List Task → List ℕ
-taskLines rows j [] = []
-taskLines rows j (x ∷ xs) =
-    taskLine x (getD rows (rowSize * j) 0) (getD rows (rowSize * j + 1) 0) (getD rows (rowSize * j + 2) 0) ++ taskLines rows (suc j) xs
+taskLines report j [] = []
+taskLines report j (x ∷ xs) = taskLine x (rowPart report j) ++ taskLines report (suc j) xs
 
 -- done: the change, then the old tasks and the new ones
 unfoldable pub doneLines : ℕ → ℕ → List Task → List Task → List ℕ → List ℕ
-doneLines a b olds news rows = changeLine a b ++ (taskLines rows 0 olds ++ taskLines rows (length olds) news)
+doneLines a b olds news report = changeLine a b ++ (taskLines report 0 olds ++ taskLines report (length olds) news)
 
 -- ---- all that is printed
 
@@ -71,18 +70,9 @@ linesOf s o n = cond (eqb (s .reply .code) 0) (doneLines (modeHeld o) (modeHeld 
 unfoldable pub printed : List ℕ → List ℕ
 printed input = linesOf (found input) (readingOf 0 (oldBlock input)) (readingOf 1 (newBlock input))
 
--- no text is longer: the change takes at most 19 bytes, the line of a task 41
+-- no text is longer: the letter, the number and the line feed of a task take at most 8 bytes, each number of its row 11
 abbrev pub mostLine : ℕ
-mostLine = 41
+mostLine = 8 + 11 * rowSize
 
 abbrev pub mostText : ℕ
-mostText = 19 + mostLine * (mostTasks + mostTasks)
-
--- ---- a table in code
-
--- the tasks of a table, and that the places behind them fill it up
-abbrev pub tasksOf : Table → List Task
-tasksOf tb = take (tb .count) (tb .tasks)
-
-abbrev pub Whole : Table → Type 0
-Whole tb = length (tb .tasks) ≡ tb .count + (mostTasks - tb .count)
+mostText = mostChange + mostLine * (mostTasks + mostTasks)

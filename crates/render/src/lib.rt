@@ -1,42 +1,65 @@
 // What the program prints of an input: the lines of a change, or the one line of a refusal.
 ghost use mathlib.Core.Path.{_≡_};
 ghost use Prim.Native.Nat.{_+_, _*_, _≤_, _<_};
+ghost use mathlib.Core.List.{_∷_};
 ghost use lib.ListN.{length};
 ghost use Rattle.lines.specs.Put.{put, next, written};
-ghost use Rattle.render.specs.Printed.{printed, refusedLine, doneLines, taskLine, taskLines, tasksOf, Whole, mostNumbers, mostLine, mostText};
-ghost use Rattle.rows.specs.Rows.{rowSize};
+ghost use Rattle.lines.specs.Line.{spaced};
+ghost use Rattle.block.specs.Format.{mostTasks};
+ghost use Rattle.block.specs.Block.{listed};
+ghost use Rattle.block.specs.Legal.{Tabled};
+ghost use Rattle.rows.specs.Rows.{rowSize, reportRoom};
+ghost use Rattle.render.specs.Printed.{printed, refusedLine, doneLines, taskLine, taskLines, mostLine, mostText};
 use block::Answer;
+use block::BLOCK_SIZE;
+use block::MOST_TASKS;
 use block::Table;
 use block::Task;
+use rows::REPORT_ROOM;
+use rows::ROW_SIZE;
 
-const OLD_BLOCK: usize = 512;
+const MOST_LINE: usize = 8 + 11 * ROW_SIZE;
 
-const ROW_SIZE: usize = 3;
+pub const MOST_TEXT: usize = lines::MOST_CHANGE + MOST_LINE * (MOST_TASKS + MOST_TASKS);
 
-const MOST_NUMBERS: usize = 180;
+fn long(x: u32) -> u64
+    ensures { λ r. ⌜ (r ≡ x) × (r < 4294967296) ⌝ }
+{
+    x as u64
+}
 
-pub const MOST_TEXT: usize = 2479;
+// The numbers of a task's line: its own, then those of its row.
+fn numbers_of(number: u16, row: &[u32]) -> [u64; 1 + ROW_SIZE]
+    requires { ⌜ length (now row) ≡ rowSize ⌝ }
+    ensures { λ r. ⌜ (r ≡ number ∷ now (row .entry)) × (length (spaced r) + 2 ≤ mostLine) ⌝ }
+{
+    let mut numbers = [0u64; 1 + ROW_SIZE];
+    numbers[0] = base::wider(number);
+    let mut i: usize = 0;
+    while i < ROW_SIZE {
+        numbers[i + 1] = long(row[i]);
+        i += 1;
+    }
+    numbers
+}
 
-fn put_task(text: &mut [u8], at: usize, x: Task, first: u32, second: u32, third: u32) -> usize
-    requires { ⌜ at + mostLine ≤ length (now text) ⌝ }
-    ensures { λ r. ⌜ (r ≡ at + length (taskLine x first second third)) × (r ≤ at + mostLine) ⌝ }
-    ensures { λ _. ⌜ now (text .exit) ≡ put (now (text .entry)) at (taskLine x first second third) ⌝ }
+// A task's line at a place.
+fn put_task(text: &mut [u8], at: usize, x: Task, row: &[u32]) -> usize
+    requires { ⌜ (at + mostLine ≤ length (now text)) × (length (now row) ≡ rowSize) ⌝ }
+    ensures { λ r. ⌜ (r ≡ at + length (taskLine x (now (row .entry)))) × (r ≤ at + mostLine) ⌝ }
+    ensures { λ _. ⌜ now (text .exit) ≡ put (now (text .entry)) at (taskLine x (now (row .entry))) ⌝ }
 {
     let letter = [lines::letter_of(x.kind)];
-    let numbers = [
-        base::wider(x.number),
-        first as u64,
-        second as u64,
-        third as u64,
-    ];
+    let numbers = numbers_of(x.number, row);
     lines::put_line(text, at, &letter, &numbers)
 }
 
 // A line for each task of a table; the first one's row is row j of the report.
 fn put_tasks(text: &mut [u8], at: usize, table: Table, j: usize, report: &[u32]) -> usize
-    requires { ⌜ Whole table × (at + mostLine * table .count ≤ length (now text)) × (rowSize * (j + table .count) ≤ length (now report)) ⌝ }
-    ensures { λ r. ⌜ (r ≡ at + length (taskLines (now (report .entry)) j (tasksOf table))) × (r ≤ at + mostLine * table .count) ⌝ }
-    ensures { λ _. ⌜ now (text .exit) ≡ put (now (text .entry)) at (taskLines (now (report .entry)) j (tasksOf table)) ⌝ }
+    requires { ⌜ (length (table .tasks) ≡ mostTasks) × (table .count ≤ mostTasks) ⌝ }
+    requires { ⌜ (at + mostLine * table .count ≤ length (now text)) × (rowSize * (j + table .count) ≤ length (now report)) ⌝ }
+    ensures { λ r. ⌜ (r ≡ at + length (taskLines (now (report .entry)) j (listed table))) × (r ≤ at + mostLine * table .count) ⌝ }
+    ensures { λ _. ⌜ now (text .exit) ≡ put (now (text .entry)) at (taskLines (now (report .entry)) j (listed table)) ⌝ }
 {
     let n = table.count;
     let mut end = at;
@@ -44,16 +67,16 @@ fn put_tasks(text: &mut [u8], at: usize, table: Table, j: usize, report: &[u32])
     while k < n {
         let x = table.tasks[k];
         let row = ROW_SIZE * (j + k);
-        end = put_task(text, end, x, report[row], report[row + 1], report[row + 2]);
+        end = put_task(text, end, x, &report[row..row + ROW_SIZE]);
         k += 1;
     }
     end
 }
 
 fn put_done(text: &mut [u8], a: u16, b: u16, olds: Table, news: Table, report: &[u32]) -> usize
-    requires { ⌜ Whole olds × Whole news × (length (now text) ≡ mostText) × (length (now report) ≡ mostNumbers) ⌝ }
-    ensures { λ r. ⌜ (r ≡ length (doneLines a b (tasksOf olds) (tasksOf news) (now (report .entry)))) × (r ≤ mostText) ⌝ }
-    ensures { λ _. ⌜ now (text .exit) ≡ put (now (text .entry)) 0 (doneLines a b (tasksOf olds) (tasksOf news) (now (report .entry))) ⌝ }
+    requires { ⌜ Tabled 0 olds × Tabled 1 news × (length (now text) ≡ mostText) × (length (now report) ≡ reportRoom) ⌝ }
+    ensures { λ r. ⌜ (r ≡ length (doneLines a b (listed olds) (listed news) (now (report .entry)))) × (r ≤ mostText) ⌝ }
+    ensures { λ _. ⌜ now (text .exit) ≡ put (now (text .entry)) 0 (doneLines a b (listed olds) (listed news) (now (report .entry))) ⌝ }
 {
     let modes = [base::wider(a), base::wider(b)];
     let n = olds.count;
@@ -81,8 +104,8 @@ fn put_text(text: &mut [u8], input: &[u8]) -> usize
     ensures { λ r. ⌜ (r ≡ length (printed (now (input .entry)))) × (r ≤ mostText) ⌝ }
     ensures { λ _. ⌜ now (text .exit) ≡ put (now (text .entry)) 0 (printed (now (input .entry))) ⌝ }
 {
-    let n = base::least(OLD_BLOCK, input.len());
-    let mut report = [0u32; MOST_NUMBERS];
+    let n = base::least(BLOCK_SIZE, input.len());
+    let mut report = [0u32; REPORT_ROOM];
     let answer = pair::analyse(&input[0..n], &input[n..], &mut report);
     if answer.code != 0 {
         return put_refusal(text, answer);
