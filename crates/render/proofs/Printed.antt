@@ -3,7 +3,7 @@ use Prim.Native.Nat.{ℕ, suc, _+_, _*_, _-_, _≤_, _<_, min}
 use mathlib.Core.Path.{_≡_, refl, sym, ap, subst, _∙_}
 use mathlib.Core.Logic.{⊎-elim}
 use mathlib.Core.List.{List, [], _∷_, _++_, append-assoc, append-nil}
-use lib.ListN.{length, getD, set, take, drop, replicate, length-append, length-drop, drop-of-length-le}
+use lib.ListN.{length, getD, set, take, drop, length-append, length-drop, drop-of-length-le}
 use lib.Seq.{take-suc, take-all, length-take-le}
 use lib.Dec.{eqb}
 use borrow.Author.Tests.{eq-eqb, ne-eqb}
@@ -27,9 +27,8 @@ use Rattle.block.specs.Block.{Reading, holds, spoilt, readingOf, listed, loaded
 use Rattle.block.specs.Legal.{Legal, Tabled}
 use Rattle.block.proofs.Tables.{table-listed, table-tabled}
 use Rattle.block.proofs.Reading.{reading-legal}
-use Rattle.rows.specs.Rows.{reportRoom}
-use Rattle.pair.specs.Analysis.{Analysis, analyseOf}
-use Rattle.render.specs.Printed.{oldBlock, newBlock, found, modeHeld, tasksHeld, refusedWord, refusedLine, taskLine, rowPart, taskLines, doneLines, linesOf, printed, mostLine}
+use Rattle.pair.specs.Analysis.{Analysis}
+use Rattle.render.specs.Printed.{oldBlock, newBlock, found, modeHeld, tasksHeld, refusedWord, refusedLine, taskLine, rowPart, taskLines, doneLines, linesOf, pairLines, printed, mostLine}
 
 -- ---- the tasks' lines
 
@@ -167,25 +166,27 @@ module _ (l : List ℕ) (n : ℕ) (e : n ≡ min blockSize (length l)) where
   unfolding newBlock
   part-new = part-back blockSize n l e
 
-pub found-is : (l o n z : List ℕ) → o ≡ oldBlock l → n ≡ newBlock l → z ≡ replicate reportRoom 0 → analyseOf o n z ≡ found l
-unfolding found
-found-is l o n z e f g = rw (e, f, g)
-
 -- ---- what is printed
 
-module _ (l : List ℕ) (a : Answer) (e : a ≡ found l .reply) where
-  pub printed-refused : (a .code ≡ 0 → ⊥) → printed l ≡ refusedLine a
-  unfolding printed
-  printed-refused h = lines-refused (found l) (readingOf 0 (oldBlock l)) (readingOf 1 (newBlock l)) (λ z. h (ap (λ (x : Answer). x .code) e ∙ z)) ∙ ap refusedLine (sym e)
+-- of two blocks o and w, where a is the answer of their analysis
+module _ (o w : List ℕ) (a : Answer) (e : a ≡ found o w .reply) where
+  pub pair-refused : (a .code ≡ 0 → ⊥) → pairLines o w ≡ refusedLine a
+  unfolding pairLines
+  pair-refused h = lines-refused (found o w) (readingOf 0 o) (readingOf 1 w) (λ z. h (ap (λ (x : Answer). x .code) e ∙ z)) ∙ ap refusedLine (sym e)
 
-  pub printed-done : (report : List ℕ) (o n : Loaded) → report ≡ found l .report → a .code ≡ 0 → o ≡ loadedOf 0 (oldBlock l) → n ≡ loadedOf 1 (newBlock l)
-      → printed l ≡ doneLines (o .mode) (n .mode) (listed (o .table)) (listed (n .table)) report
-  unfolding printed loadedOf
-  printed-done report o n f h p q =
-      lines-done (found l) (readingOf 0 (oldBlock l)) (readingOf 1 (newBlock l)) (sym (ap (λ (x : Answer). x .code) e) ∙ h)
-      ∙ ap (λ (x : Loaded). doneLines (x .mode) (loaded (readingOf 1 (newBlock l)) .mode) (listed (x .table)) (listed (loaded (readingOf 1 (newBlock l)) .table)) (found l .report)) (sym p)
-      ∙ ap (λ (x : Loaded). doneLines (o .mode) (x .mode) (listed (o .table)) (listed (x .table)) (found l .report)) (sym q)
-      ∙ ap (doneLines (o .mode) (n .mode) (listed (o .table)) (listed (n .table))) (sym f)
+  pub pair-done : (report : List ℕ) (l n : Loaded) → report ≡ found o w .report → a .code ≡ 0 → l ≡ loadedOf 0 o → n ≡ loadedOf 1 w
+      → pairLines o w ≡ doneLines (l .mode) (n .mode) (listed (l .table)) (listed (n .table)) report
+  unfolding pairLines loadedOf
+  pair-done report l n f h p q =
+      lines-done (found o w) (readingOf 0 o) (readingOf 1 w) (sym (ap (λ (x : Answer). x .code) e) ∙ h)
+      ∙ ap (λ (x : Loaded). doneLines (x .mode) (loaded (readingOf 1 w) .mode) (listed (x .table)) (listed (loaded (readingOf 1 w) .table)) (found o w .report)) (sym p)
+      ∙ ap (λ (x : Loaded). doneLines (l .mode) (x .mode) (listed (l .table)) (listed (x .table)) (found o w .report)) (sym q)
+      ∙ ap (doneLines (l .mode) (n .mode) (listed (l .table)) (listed (n .table))) (sym f)
+
+-- of an input by its two parts
+pub printed-is : (l o w : List ℕ) → o ≡ oldBlock l → w ≡ newBlock l → pairLines o w ≡ printed l
+unfolding printed
+printed-is l o w e f = rw (e, f)
 
 -- the table of a block is one of its side
 pub load-tabled : (side : ℕ) (b : List ℕ) (o : Loaded) → o ≡ loadedOf side b → Tabled side (o .table)
@@ -205,9 +206,9 @@ text-front t t₁ s end h e = rw e (put-front t 0 s (end - 0) (omega arith) (ome
 
 -- no text is empty, so that the answer 0 says that there was too little room
 pub printed-some : (input : List ℕ) → 1 ≤ length (printed input)
-unfolding printed linesOf doneLines changeLine refusedLine
+unfolding printed pairLines linesOf doneLines changeLine refusedLine
 printed-some input =
     ⊎-elim
     (λ e. rw e (simp length-append (omega (arith, line-some changeWord (modeHeld (readingOf 0 (oldBlock input)) ∷ modeHeld (readingOf 1 (newBlock input)) ∷ [])))))
     (λ e. rw e (line-some refusedWord _))
-    (either (eqb (found input .reply .code) 0))
+    (either (eqb (found (oldBlock input) (newBlock input) .reply .code) 0))

@@ -50,7 +50,7 @@ cases =
     gives (oldBlock (replicate 512 1 ++ (2 ∷ 3 ∷ []))) (replicate 512 1) ∷ gives (newBlock (replicate 512 1 ++ (2 ∷ 3 ∷ []))) (2 ∷ 3 ∷ [])
     ∷ gives (oldBlock (1 ∷ [])) (1 ∷ []) ∷ gives (newBlock (1 ∷ [])) []
     -- the report that is lent, kept by a refusal
-    ∷ gives (found [] .report) (replicate 180 0)
+    ∷ gives (found [] [] .report) (replicate 180 0)
     -- "refused 10 1 29 8"
     ∷ gives (refusedLine (answer 10 1 29 8)) (refused (32 ∷ 49 ∷ 48 ∷ 32 ∷ 49 ∷ 32 ∷ 50 ∷ 57 ∷ 32 ∷ 56 ∷ 10 ∷ []))
     -- two old tasks and a new one: done, and "refused 8 2 0 0"; a block that is refused has mode 0 and no tasks

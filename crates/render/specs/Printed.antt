@@ -23,9 +23,9 @@ oldBlock input = take blockSize input
 unfoldable pub newBlock : List ℕ → List ℕ
 newBlock input = drop blockSize input
 
--- the analysis of the two, in a report with room for every row
-unfoldable pub found : List ℕ → Analysis
-found input = analyseOf (oldBlock input) (newBlock input) (replicate reportRoom 0)
+-- the analysis of two blocks, in a report with room for every row
+unfoldable pub found : List ℕ → List ℕ → Analysis
+found old new = analyseOf old new (replicate reportRoom 0)
 
 -- the mode number and the tasks that a block holds; a refused one holds none
 unfoldable pub modeHeld : Reading → ℕ
@@ -67,8 +67,12 @@ doneLines a b olds news report = changeLine a b ++ (taskLines report 0 olds ++ t
 unfoldable pub linesOf : Analysis → Reading → Reading → List ℕ
 linesOf s o n = cond (eqb (s .reply .code) 0) (doneLines (modeHeld o) (modeHeld n) (tasksHeld o) (tasksHeld n) (s .report)) (refusedLine (s .reply))
 
+-- of two blocks, and of an input
+unfoldable pub pairLines : List ℕ → List ℕ → List ℕ
+pairLines old new = linesOf (found old new) (readingOf 0 old) (readingOf 1 new)
+
 unfoldable pub printed : List ℕ → List ℕ
-printed input = linesOf (found input) (readingOf 0 (oldBlock input)) (readingOf 1 (newBlock input))
+printed input = pairLines (oldBlock input) (newBlock input)
 
 -- no text is longer: the letter, the number and the line feed of a task take at most 8 bytes, each number of its row 11
 abbrev pub mostLine : ℕ

@@ -9,7 +9,7 @@ ghost use Rattle.block.specs.Format.{mostTasks};
 ghost use Rattle.block.specs.Block.{listed};
 ghost use Rattle.block.specs.Legal.{Tabled};
 ghost use Rattle.rows.specs.Rows.{rowSize, reportRoom};
-ghost use Rattle.render.specs.Printed.{printed, refusedLine, doneLines, taskLine, taskLines, mostLine, mostText};
+ghost use Rattle.render.specs.Printed.{printed, pairLines, refusedLine, doneLines, taskLine, taskLines, mostLine, mostText};
 use block::Answer;
 use block::BLOCK_SIZE;
 use block::MOST_TASKS;
@@ -99,22 +99,31 @@ fn put_refusal(text: &mut [u8], answer: Answer) -> usize
     lines::put_line(text, 0, b"refused", &numbers)
 }
 
+fn put_pair(text: &mut [u8], old: &[u8], new: &[u8]) -> usize
+    requires { ⌜ length (now text) ≡ mostText ⌝ }
+    ensures { λ r. ⌜ (r ≡ length (pairLines (now (old .entry)) (now (new .entry)))) × (r ≤ mostText) ⌝ }
+    ensures { λ _. ⌜ now (text .exit) ≡ put (now (text .entry)) 0 (pairLines (now (old .entry)) (now (new .entry))) ⌝ }
+{
+    let mut report = [0u32; REPORT_ROOM];
+    let answer = pair::analyse(old, new, &mut report);
+    if answer.code != 0 {
+        return put_refusal(text, answer);
+    }
+    let left = reader::load(old, 0);
+    let entered = reader::load(new, 1);
+    let olds = left.table;
+    let news = entered.table;
+    put_done(text, left.mode, entered.mode, olds, news, &report)
+}
+
+// The first 512 bytes are the old block, all the rest the new.
 fn put_text(text: &mut [u8], input: &[u8]) -> usize
     requires { ⌜ length (now text) ≡ mostText ⌝ }
     ensures { λ r. ⌜ (r ≡ length (printed (now (input .entry)))) × (r ≤ mostText) ⌝ }
     ensures { λ _. ⌜ now (text .exit) ≡ put (now (text .entry)) 0 (printed (now (input .entry))) ⌝ }
 {
     let n = base::least(BLOCK_SIZE, input.len());
-    let mut report = [0u32; REPORT_ROOM];
-    let answer = pair::analyse(&input[0..n], &input[n..], &mut report);
-    if answer.code != 0 {
-        return put_refusal(text, answer);
-    }
-    let old = reader::load(&input[0..n], 0);
-    let new = reader::load(&input[n..], 1);
-    let olds = old.table;
-    let news = new.table;
-    put_done(text, old.mode, new.mode, olds, news, &report)
+    put_pair(text, &input[0..n], &input[n..])
 }
 
 // The text of an input at the front of out, where it fits; the answer is its length, or 0 where out is too short.

@@ -16,9 +16,9 @@ use Rattle.window.specs.Demand.{sumAbove, steadyDemand, phaseDemand, requestDem
 use Rattle.window.specs.Worst.{takeOf, nextOf, sweep}
 use Rattle.row.specs.Row.{rowOf}
 use Rattle.pair.specs.Analysis.{analyseOf, pairOf}
-use Rattle.render.specs.Printed.{oldBlock, newBlock, found, modeHeld, tasksHeld, refusedLine, taskLine, taskLines, doneLines, linesOf, printed}
+use Rattle.render.specs.Printed.{oldBlock, newBlock, found, modeHeld, tasksHeld, refusedLine, taskLine, taskLines, doneLines, linesOf, pairLines, printed}
 use Rattle.report.specs.Examples.{inputA, linesA, lineC, lineLong}
 
 pub examples : (printed (inputA 20) ≡ linesA) × (printed (inputA 8) ≡ lineC) × (printed (inputA 20 ++ (0 ∷ [])) ≡ lineLong)
-unfolding printed oldBlock newBlock found inputA linesA lineC lineLong blockOf headOf bodyOf recordOf wordSum readingOf blockVerdict sealChecks headChecks headed taskChecks kindOn taskOf every any alike analyseOf pairOf linesOf doneLines changeLine refusedLine taskLines taskLine letterAt modeHeld tasksHeld lineOf restOf spaced decimal digits upTo firstOf rowOf steadyDemand phaseDemand requestDemand sumAbove sumOf rank jobsIn cutIn ceil windowOf firstWhere sweep nextOf takeOf flatMap
+unfolding printed pairLines oldBlock newBlock found inputA linesA lineC lineLong blockOf headOf bodyOf recordOf wordSum readingOf blockVerdict sealChecks headChecks headed taskChecks kindOn taskOf every any alike analyseOf pairOf linesOf doneLines changeLine refusedLine taskLines taskLine letterAt modeHeld tasksHeld lineOf restOf spaced decimal digits upTo firstOf rowOf steadyDemand phaseDemand requestDemand sumAbove sumOf rank jobsIn cutIn ceil windowOf firstWhere sweep nextOf takeOf flatMap
 examples = (refl, refl, refl)
