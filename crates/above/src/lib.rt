@@ -42,12 +42,6 @@ fn mark_of(kind: u8) -> u64
     if kind == 1 { 1 } else { 0 }
 }
 
-fn long(x: u32) -> u64
-    ensures { λ r. ⌜ (r ≡ x) × (r < 4294967296) ⌝ }
-{
-    x as u64
-}
-
 // The reciprocal of p, by two divisions that 32 bits are enough for: 2^40 is 512 times 2^31.
 fn recip(p: u32) -> u64
     requires { ⌜ (1 ≤ p) × (p < 65536) ⌝ }
@@ -56,7 +50,7 @@ fn recip(p: u32) -> u64
     let q = 2147483648 / p;
     let rest = 2147483648 - q * p;
     let more = (512 * rest + (p - 1)) / p;
-    512 * long(q) + long(more)
+    512 * base::long(q) + base::long(more)
 }
 
 // The numbers of x, written at a place of the roll.

@@ -14,6 +14,8 @@ use Rattle.base.proofs.whole.Reads as whole
 use Rattle.base.proofs.whole.Kinds as whole-kinds
 use Rattle.base.proofs.wider.Reads as wider
 use Rattle.base.proofs.wider.Kinds as wider-kinds
+use Rattle.base.proofs.long.Reads as long
+use Rattle.base.proofs.long.Kinds as long-kinds
 use Rattle.base.proofs.least.Reads as least
 use Rattle.base.proofs.least.Kinds as least-kinds
 use Rattle.base.proofs.copy_bytes.Reads as copy-bytes
@@ -40,6 +42,10 @@ whole-unique κs a r r′ s s′ p q = p ∙ sym q
 pub wider-unique : (κs : Lfts 0) (a : Dens κs wider-kinds.ps) (r r′ : resT wider-kinds.r κs .Denot) (s s′ : AtExit (endedOf 0 wider-kinds.ps wider-kinds.r) κs)
     → wider.Post κs a r s → wider.Post κs a r′ s′ → r ≡ r′
 wider-unique κs a r r′ s s′ p q = p .0 ∙ sym (q .0)
+
+pub long-unique : (κs : Lfts 0) (a : Dens κs long-kinds.ps) (r r′ : resT long-kinds.r κs .Denot) (s s′ : AtExit (endedOf 0 long-kinds.ps long-kinds.r) κs)
+    → long.Post κs a r s → long.Post κs a r′ s′ → r ≡ r′
+long-unique κs a r r′ s s′ p q = p .0 ∙ sym (q .0)
 
 pub least-unique : (κs : Lfts 0) (a : Dens κs least-kinds.ps) (r r′ : resT least-kinds.r κs .Denot) (s s′ : AtExit (endedOf 0 least-kinds.ps least-kinds.r) κs)
     → least.Post κs a r s → least.Post κs a r′ s′ → r ≡ r′

@@ -3,7 +3,7 @@ ghost use mathlib.Core.Path.{_≡_};
 ghost use Prim.Native.Nat.{_<_, min};
 ghost use Rattle.base.specs.Lists.{over};
 
-// Bytes and halves as wider numbers.
+// Bytes, halves and words as wider numbers.
 pub fn wide(x: u8) -> u16
     ensures { λ r. ⌜ (r ≡ x) × (r < 256) ⌝ }
 {
@@ -30,6 +30,12 @@ pub fn whole(x: u16) -> u32
 
 pub fn wider(x: u16) -> u64
     ensures { λ r. ⌜ (r ≡ x) × (r < 65536) ⌝ }
+{
+    x as u64
+}
+
+pub fn long(x: u32) -> u64
+    ensures { λ r. ⌜ (r ≡ x) × (r < 4294967296) ⌝ }
 {
     x as u64
 }

@@ -22,12 +22,6 @@ const MOST_LINE: usize = 8 + 11 * ROW_SIZE;
 
 pub const MOST_TEXT: usize = lines::MOST_CHANGE + MOST_LINE * (MOST_TASKS + MOST_TASKS);
 
-fn long(x: u32) -> u64
-    ensures { λ r. ⌜ (r ≡ x) × (r < 4294967296) ⌝ }
-{
-    x as u64
-}
-
 // The numbers of a task's line: its own, then those of its row.
 fn numbers_of(number: u16, row: &[u32]) -> [u64; 1 + ROW_SIZE]
     requires { ⌜ length (now row) ≡ rowSize ⌝ }
@@ -37,7 +31,7 @@ fn numbers_of(number: u16, row: &[u32]) -> [u64; 1 + ROW_SIZE]
     numbers[0] = base::wider(number);
     let mut i: usize = 0;
     while i < ROW_SIZE {
-        numbers[i + 1] = long(row[i]);
+        numbers[i + 1] = base::long(row[i]);
         i += 1;
     }
     numbers
