@@ -5,3 +5,4 @@ pub mod Recip
 pub mod Flat
 pub mod Lists
 pub mod Unique
+pub mod Cases

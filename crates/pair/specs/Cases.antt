@@ -1,4 +1,5 @@
--- Cases a to j of document 01, "Numbers to check against": two task lists, the room of the lent report, the answer and the rows. Definitions only.
+-- Two tables of cases: a to j of document 01, "Numbers to check against", and more that were worked out by hand from its text. A case is two
+-- task lists, the room of the lent report, the answer and the rows. Definitions only.
 use Prim.Native.Nat.{ℕ, _-_}
 use mathlib.Core.List.{List, [], _∷_, _++_}
 use lib.ListN.{length, replicate}
@@ -22,7 +23,7 @@ accepted xs ys n l = record { olds = xs; news = ys; room = n; reply = done; rows
 abbrev pub refusedBy : List Task → List Task → ℕ → Answer → Case
 refusedBy xs ys n a = record { olds = xs; news = ys; room = n; reply = a; rows = [] }
 
--- the report is lent full of sevens; in each case there is room for one number more than the rows
+-- the report is lent full of sevens; in each of a to j there is room for one number more than the rows
 abbrev pub lent : Case → List ℕ
 lent c = replicate (c .room) 7
 
@@ -77,3 +78,66 @@ cases =
     ∷ accepted [] (newTask 1 5 5 5 1 65535 ∷ []) 4 (5 ∷ 5 ∷ 5 ∷ [])
     ∷ refusedBy [] (newTask 1 5 5 5 1 0 ∷ newTask 2 5 5 1 2 0 ∷ []) 7 (answer 10 1 1 0)
     ∷ []
+
+-- ---- the second table: more cases, by hand from "The windows", "The rows" and "Codes and what comes back"
+
+-- a new task above an old one, with its Y left open
+abbrev pub newsAbove : ℕ → List Task
+newsAbove Y = newTask 1 10 10 3 1 Y ∷ []
+
+-- an aborted task above, several of whose jobs come before the request; the D of the task below it left open
+abbrev pub oldsCut : ℕ → List Task
+oldsCut D = abortedTask 1 5 3 2 1 ∷ completedTask 2 12 D 4 2 ∷ []
+
+-- completed tasks above an aborted one, whose D is left open
+abbrev pub oldsWhole : ℕ → List Task
+oldsWhole D = completedTask 1 3 3 1 1 ∷ completedTask 2 8 8 4 2 ∷ abortedTask 3 10 D 1 3 ∷ []
+
+-- a new task of many jobs, above an old task and another new one, whose D are left open
+abbrev pub oldsMany : ℕ → List Task
+oldsMany D = completedTask 1 8 D 4 2 ∷ []
+
+abbrev pub newsMany : ℕ → List Task
+newsMany D = newTask 1 3 3 1 1 0 ∷ newTask 2 20 D 2 3 1 ∷ []
+
+abbrev pub rowsMany : List ℕ
+rowsMany = 6 ∷ 1 ∷ 4 ∷ 1 ∷ 1 ∷ 1 ∷ 8 ∷ 9 ∷ 3 ∷ []
+
+-- of each side two tasks are late: the second and third old ones, the first and third new ones
+abbrev pub oldsLate : List Task
+oldsLate = completedTask 1 10 10 2 1 ∷ completedTask 2 10 4 3 2 ∷ abortedTask 3 10 4 4 3 ∷ []
+
+abbrev pub newsLate : List Task
+newsLate = newTask 1 10 3 3 5 0 ∷ newTask 2 10 10 2 4 0 ∷ newTask 3 10 3 3 6 0 ∷ []
+
+unfoldable pub moreCases : List Case
+moreCases =
+    -- from the request an aborted task above adds nothing
+    accepted (abortedTask 1 10 10 4 1 ∷ []) (newTask 1 10 10 3 2 0 ∷ []) 6 (4 ∷ 0 ∷ 4 ∷ 3 ∷ 3 ∷ 3 ∷ [])
+    -- nor does a new one before its Y: steady is then the larger; where w is at most Y, steady counts
+    ∷ accepted [] (newTask 1 10 10 2 1 5 ∷ newTask 2 10 10 3 2 0 ∷ []) 6 (2 ∷ 2 ∷ 2 ∷ 5 ∷ 3 ∷ 5 ∷ [])
+    -- at phase 1 and t = 4 a new task above of Y = 2 has come, one of Y = 3 has not
+    ∷ accepted (oldsMany 8) (newsAbove 2) 6 (7 ∷ 1 ∷ 4 ∷ 3 ∷ 3 ∷ 3 ∷ [])
+    ∷ accepted (oldsMany 8) (newsAbove 3) 6 (4 ∷ 1 ∷ 4 ∷ 3 ∷ 3 ∷ 3 ∷ [])
+    -- several jobs of one new task; completed, and new from the request: in time, and late by one tick
+    ∷ accepted (oldsMany 6) (newsMany 8) 9 rowsMany
+    ∷ refusedBy (oldsMany 5) (newsMany 8) 9 (answer 9 0 0 1)
+    ∷ refusedBy (oldsMany 6) (newsMany 7) 9 (answer 10 1 1 1)
+    -- new, steady: in time, and late by one tick
+    ∷ accepted [] (newsMany 3) 6 (1 ∷ 1 ∷ 1 ∷ 3 ∷ 3 ∷ 3 ∷ [])
+    ∷ refusedBy [] (newsMany 2) 6 (answer 10 1 1 0)
+    -- several jobs of an aborted task; the task below it in time, and late at its last phase alone
+    ∷ accepted (oldsCut 8) [] 6 (2 ∷ 0 ∷ 2 ∷ 8 ∷ 7 ∷ 8 ∷ [])
+    ∷ refusedBy (oldsCut 7) [] 6 (answer 9 0 1 7)
+    -- several jobs of a completed task; an aborted one in time, and late by one tick
+    ∷ accepted (oldsWhole 8) [] 9 (1 ∷ 1 ∷ 1 ∷ 6 ∷ 4 ∷ 6 ∷ 8 ∷ 0 ∷ 8 ∷ [])
+    ∷ refusedBy (oldsWhole 7) [] 9 (answer 9 0 2 0)
+    -- a short report is named first, then the first late old task, then the first late new one
+    ∷ refusedBy oldsLate newsLate 17 (answer 8 2 0 0)
+    ∷ refusedBy oldsLate newsLate 18 (answer 9 0 1 1)
+    ∷ refusedBy [] newsLate 9 (answer 10 1 0 0)
+    ∷ []
+
+-- an old block without tasks
+abbrev pub blankBlock : List ℕ
+blankBlock = 77 ∷ 84 ∷ (replicate 506 0 ++ (77 ∷ 84 ∷ 0 ∷ 0 ∷ []))

@@ -4,3 +4,4 @@ pub mod Sweep
 pub mod Unique
 pub mod Sides
 pub mod Behind
+pub mod Cases
