@@ -5,7 +5,7 @@
 # make soak   random inputs against the second program for SECONDS (60)
 # make stored every stored block and expected file written anew, to read in git diff before it is committed
 # make shares every crate proved from nothing, and what each takes; refused where one takes more than 4 times what base takes
-# make sweep  every small change of the block's definitions, which the prover has to refuse (ten minutes or more)
+# make sweep  every small change of a definition that a reader believes, which a computed case has to refuse (half an hour or so)
 .POSIX:
 .PHONY: run test setup text programs library lib bench soak stored shares sweep clean
 SECONDS = 60
