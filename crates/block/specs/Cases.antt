@@ -97,7 +97,7 @@ cases =
     passes (ofTask 0 0 0 1000 900 7 0) ∷ passes (ofTask 0 1 1 1000 900 7 0) ∷ refuses (ofTask 0 3 2 1000 900 7 0) 5 0 3
     ∷ refuses (ofTask 1 4 0 1000 900 7 0) 5 1 4 ∷ refuses (ofTask 1 4 1 1000 900 7 0) 5 1 4 ∷ passes (ofTask 1 4 2 1000 900 7 0) ∷ refuses (ofTask 1 4 3 1000 900 7 0) 5 1 4
     -- the least task; D = T and D = T + 1, C = D and C = D + 1, C = 0, T = 0, and Y by side
-    ∷ passes (ofTask 0 3 0 1 1 1 0) ∷ passes (ofTask 0 3 0 1000 1000 7 0) ∷ refuses (ofTask 0 3 0 1000 1001 7 0) 5 0 3 ∷ refuses (ofTask 1 4 2 1000 1001 7 0) 5 1 4
+    ∷ passes (firstOf (taskChecks 0 3 (taskBy 0 0 0 1 1 1 0))) ∷ passes (ofTask 0 3 0 1000 1000 7 0) ∷ refuses (ofTask 0 3 0 1000 1001 7 0) 5 0 3 ∷ refuses (ofTask 1 4 2 1000 1001 7 0) 5 1 4
     ∷ passes (ofTask 0 3 0 1000 900 900 0) ∷ refuses (ofTask 0 3 0 1000 900 901 0) 5 0 3 ∷ refuses (ofTask 1 4 2 1000 900 901 0) 5 1 4
     ∷ refuses (ofTask 0 3 0 1000 900 0 0) 5 0 3 ∷ refuses (ofTask 1 4 2 1000 900 0 0) 5 1 4 ∷ refuses (ofTask 0 3 0 0 0 0 0) 5 0 3 ∷ refuses (ofTask 1 4 2 0 0 0 0) 5 1 4
     ∷ refuses (ofTask 0 3 0 1000 900 7 1) 5 0 3 ∷ passes (ofTask 1 4 2 1000 900 7 65535)
