@@ -8,7 +8,7 @@ use Rattle.base.specs.Sums.{sumOf}
 use Rattle.base.specs.Numbers.{ceil, jobsIn, cutIn}
 use Rattle.base.specs.Search.{firstWhere, windowOf}
 use Rattle.block.specs.Answers.{answer, done, firstOf}
-use Rattle.block.specs.Block.{wordSum, headed, headChecks, blockVerdict, holds, readingOf}
+use Rattle.block.specs.Block.{wordSum, headed, sealChecks, headChecks, blockVerdict, holds, readingOf}
 use Rattle.window.specs.Order.{rank}
 use Rattle.window.specs.Demand.{sumAbove, steadyDemand, phaseDemand, requestDemand}
 use Rattle.window.specs.Worst.{takeOf, nextOf, sweep}
@@ -29,7 +29,7 @@ more-hold m k = refl
 -- the old block is judged as one of side 0 and before the new one, that as one of side 1
 pub blocks-hold : (analyseOf [] [] (7 ∷ []) ≡ analysis (answer 1 0 0 0) (7 ∷ [])) × (analyseOf blankBlock [] (7 ∷ []) ≡ analysis (answer 1 1 0 0) (7 ∷ []))
     × (analyseOf blankBlock blankBlock (7 ∷ []) ≡ analysis (answer 4 1 0 0) (7 ∷ []))
-unfolding analyseOf readingOf blockVerdict headChecks headed wordSum firstOf every any upTo
+unfolding analyseOf readingOf blockVerdict sealChecks headChecks headed wordSum firstOf every any upTo
 blocks-hold = (refl, refl, refl)
 
 -- the case at a place of the first table; past its end, case i
