@@ -1,6 +1,8 @@
 // Runs `analyse` through real blocks: cases a to j, the order of refusals, and the edges of the report. The tries stand in stdin, and its first
 // lines say how they are written. A line is printed as it stands; after a try come the four numbers of the answer, whether the lent report was kept
 // or changed, and, once done, the whole report.
+
+#![tactic(auto)]
 ghost use Rattle.std.specs.Prelude.{◌≤◌};
 ghost use Rattle.tries.specs.Tries.{most_numbers};
 

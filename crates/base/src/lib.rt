@@ -1,4 +1,7 @@
 // Small functions on numbers and lent slices that know nothing of tasks.
+
+#![tactic(auto)]
+
 ghost use Rattle.std.specs.Prelude.{◌≡◌, ◌<◌, min};
 ghost use Rattle.base.specs.Lists.{over};
 

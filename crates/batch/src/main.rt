@@ -1,5 +1,7 @@
 // Answers a stream of inputs: each is its length in four bytes, little-endian, and then so many bytes, at most 2,000.
 // For each it prints the lines of the printing program and a line with a dot; a longer or a cut-off input ends it.
+
+#![tactic(auto)]
 ghost use Rattle.std.specs.Prelude.{◌<◌, ◌≤◌, length};
 
 use libc::{STDIN_FILENO, STDOUT_FILENO};

@@ -1,5 +1,7 @@
 // Blocks of 512 bytes: tasks, tables, answers and verdicts. The definitions of the block, of reading and of writing stand in specs/, laws of them in proofs/. No functions.
 
+#![tactic(auto)]
+
 // The numbers of the format, each once.
 pub const BLOCK_SIZE: usize = 512;
 

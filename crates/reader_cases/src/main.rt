@@ -1,6 +1,8 @@
 // The reader's and the loader's edge cases, run. The tries stand in stdin, one to a line, and its first lines say how they are written.
 // A line is printed as it stands; after a try come the four numbers of the answer, what became of the lent list, and what an accepted one holds.
 // The lines to be printed stand in stdout, worked out from the paper.
+
+#![tactic(auto)]
 use block::{Answer, BLOCK_SIZE, LIST_SIZE};
 use libc::STDIN_FILENO;
 use tries::{MODE, MOST_BYTES, MOST_NUMBERS, number};

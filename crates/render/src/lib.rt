@@ -1,4 +1,6 @@
 // What the program prints of an input: the lines of a change, or the one line of a refusal.
+
+#![tactic(auto)]
 ghost use Rattle.std.specs.Prelude.{◌≡◌, ◌+◌, ◌*◌, ◌≤◌, ◌<◌, ◌∷◌, length};
 ghost use Rattle.lines.specs.Put.{put, next, written};
 ghost use Rattle.lines.specs.Line.{spaced};

@@ -1,4 +1,6 @@
 // What the programs that run edge cases print. No contract can say what that is: their files stdout do.
+
+#![tactic(auto)]
 ghost use Rattle.std.specs.Prelude.{◌≡◌};
 
 use block::{Answer, BLOCK_SIZE, CHECK_PLACE, LIST_SIZE, Loaded, MOST_TASKS, Table, Task};

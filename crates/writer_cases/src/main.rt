@@ -1,6 +1,8 @@
 // The writer's edge cases, run. The tries stand in stdin, one to a line, and its first lines say how they are written.
 // A line is printed as it stands; after a try come the four numbers of the answer, what became of the lent block, and what an accepted one holds.
 // The lines to be printed stand in stdout, worked out from the paper.
+
+#![tactic(auto)]
 ghost use Rattle.std.specs.Prelude.{◌<◌};
 
 use block::LIST_SIZE;

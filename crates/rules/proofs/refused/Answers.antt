@@ -1,0 +1,7 @@
+-- `refused` gives the refusal of a code, a side and a record.
+use borrow.Author.Rules.{rules}
+use Rattle.rules.proofs.refused.Goals as goal
+
+pub returns : goal.returns
+returns c =
+    rw c.least.ensures
