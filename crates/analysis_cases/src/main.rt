@@ -102,7 +102,7 @@ fn try_blocks(line: &[u8], old: [u8; BLOCK_SIZE], new: [u8; BLOCK_SIZE]) {
 // ---- the lines
 
 // The blocks of the lists said last.
-#[derive(Drop)]
+#[derive(Clone, Copy)]
 struct Pair {
     old: [u8; BLOCK_SIZE],
     new: [u8; BLOCK_SIZE],

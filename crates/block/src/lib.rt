@@ -25,7 +25,7 @@ pub const LIST_SIZE: usize = 7;
 
 // A task, as its record says it.
 #[repr(C)]
-#[derive(Drop)]
+#[derive(Clone, Copy)]
 pub struct Task {
     pub kind: u8,
     pub priority: u8,
@@ -37,7 +37,7 @@ pub struct Task {
 }
 
 // The tasks of one mode: the first `count` of `tasks`.
-#[derive(Drop)]
+#[derive(Clone, Copy)]
 pub struct Table {
     pub tasks: [Task; MOST_TASKS],
     pub count: usize,
@@ -45,7 +45,7 @@ pub struct Table {
 
 // What every public function answers.
 #[repr(C)]
-#[derive(Drop)]
+#[derive(Clone, Copy)]
 pub struct Answer {
     pub code: u32,
     pub side: u32,
@@ -54,14 +54,14 @@ pub struct Answer {
 }
 
 // What a check says: nothing is wrong, or the answer that refuses.
-#[derive(Drop)]
+#[derive(Clone, Copy)]
 pub enum Verdict {
     Passed,
     Refused(Answer),
 }
 
 // What the loader gives: the answer, and the block's mode number and table where nothing is refused.
-#[derive(Drop)]
+#[derive(Clone, Copy)]
 pub struct Loaded {
     pub answer: Answer,
     pub mode: u16,

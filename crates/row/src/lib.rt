@@ -13,7 +13,7 @@ ghost use Rattle.row.specs.declared.Judged.TheVariants.{Timely};
 use block::Task;
 use window::{Closing, Swept};
 
-#[derive(Drop)]
+#[derive(Clone, Copy)]
 pub struct Row {
     pub first: u32,
     pub second: u32,
@@ -21,7 +21,7 @@ pub struct Row {
 }
 
 // A task's row, or the detail of its lateness.
-#[derive(Drop)]
+#[derive(Clone, Copy)]
 pub enum Judged {
     Timely(Row),
     Late(u32),

@@ -10,28 +10,28 @@ ghost use Rattle.window.specs.Behind.{Bar, Held, Turned, Tells};
 ghost use Rattle.std.proofs.Math.Option.{some};
 
 // Where a window closed, or that it did not close in time.
-#[derive(Drop)]
+#[derive(Clone, Copy)]
 pub enum Closing {
     At(u64),
     Late,
 }
 
 // The largest window so far, with its smallest phase.
-#[derive(Drop)]
+#[derive(Clone, Copy)]
 pub struct Worst {
     pub window: u64,
     pub phase: u64,
 }
 
 // What the phases so far gave: the worst window, or the first late phase.
-#[derive(Drop)]
+#[derive(Clone, Copy)]
 pub enum Swept {
     Over(Worst),
     LateAt(u64),
 }
 
 // What all phases gave, and the window at the last one.
-#[derive(Drop)]
+#[derive(Clone, Copy)]
 pub struct Course {
     pub swept: Swept,
     pub last: Closing,
@@ -39,7 +39,7 @@ pub struct Course {
 
 // Between phases: the worst so far, where searches may start, and a time at which the phase just seen closes; then the last
 // phase that was searched, its window, and its demand at the request itself (0 where none was searched).
-#[derive(Drop)]
+#[derive(Clone, Copy)]
 pub struct State {
     pub best: Worst,
     pub start: u64,
@@ -49,7 +49,7 @@ pub struct State {
     pub base: u64,
 }
 
-#[derive(Drop)]
+#[derive(Clone, Copy)]
 pub enum Step {
     Go(State),
     Stop,
@@ -57,7 +57,7 @@ pub enum Step {
 
 // Between phases that go by backwards: the worst so far, then the last phase that was searched, its window, and its demand at
 // the request itself.
-#[derive(Drop)]
+#[derive(Clone, Copy)]
 pub struct Back {
     pub best: Worst,
     pub phase: u64,
@@ -65,14 +65,14 @@ pub struct Back {
     pub base: u64,
 }
 
-#[derive(Drop)]
+#[derive(Clone, Copy)]
 pub enum Turn {
     On(Back),
     Off,
 }
 
 // The worst window over all phases, or that some phase is late.
-#[derive(Drop)]
+#[derive(Clone, Copy)]
 pub enum Tried {
     Found(Worst),
     Lost,

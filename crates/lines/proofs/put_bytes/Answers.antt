@@ -8,14 +8,14 @@ use Rattle.lines.proofs.put_bytes.Goals as goal
 pub returns-then-buf-at : goal.returns-then-buf-at
 returns-then-buf-at c =
     let a = c.args in
-    (sym (next_stays a.buf.now a.at a.bytes.now (omega arith)), sym (written_stays a.buf.now a.at a.bytes.now (omega arith)))
+    record { value = sym (next_stays a.buf.now a.at a.bytes.now (omega arith)); buf_after = sym (written_stays a.buf.now a.at a.bytes.now (omega arith)) }
 
 pub returns-then-buf-at-2 : goal.returns-then-buf-at-2
 returns-then-buf-at-2 c =
     let a = c.args in
-    (sym (next_stays a.buf.now a.at a.bytes.now (omega arith)), sym (written_stays a.buf.now a.at a.bytes.now (omega arith)))
+    record { value = sym (next_stays a.buf.now a.at a.bytes.now (omega arith)); buf_after = sym (written_stays a.buf.now a.at a.bytes.now (omega arith)) }
 
 pub returns : goal.returns
 returns c =
     let a = c.args in
-    (sym (next_fits a.buf.now a.at a.bytes.now (omega arith)), c.copy_to.ensures ∙ sym (written_fits a.buf.now a.at a.bytes.now (omega arith)))
+    record { value = sym (next_fits a.buf.now a.at a.bytes.now (omega arith)); buf_after = c.copy_to.ensures ∙ sym (written_fits a.buf.now a.at a.bytes.now (omega arith)) }

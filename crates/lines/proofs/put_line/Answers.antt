@@ -14,14 +14,14 @@ pub returns-then-buf-at : goal.returns-then-buf-at
 returns-then-buf-at c =
     let a = c.args in
     let s = line_of a.word.now a.numbers.now in
-    (sym (next_stays a.buf.now a.at s (omega arith)), sym (written_stays a.buf.now a.at s (omega arith)))
+    record { value = sym (next_stays a.buf.now a.at s (omega arith)); buf_after = sym (written_stays a.buf.now a.at s (omega arith)) }
 
 pub returns-then-not-line_fits : goal.returns-then-not-line_fits
 returns-then-not-line_fits c =
     let a = c.args in
     let s = line_of a.word.now a.numbers.now in
     let h = leb-false (length s) (length a.buf.now - a.at) (sym c.line_fits.ensures ∙ c.if-not-line_fits.true) in
-    (sym (next_stays a.buf.now a.at s (omega arith)), sym (written_stays a.buf.now a.at s (omega arith)))
+    record { value = sym (next_stays a.buf.now a.at s (omega arith)); buf_after = sym (written_stays a.buf.now a.at s (omega arith)) }
 
 pub copy_to-requires : goal.copy_to-requires
 copy_to-requires c =
@@ -33,7 +33,7 @@ pub put_rest-requires : goal.put_rest-requires
 put_rest-requires c =
     let a = c.args in
     let h = leb-true (length (line_of a.word.now a.numbers.now)) (length a.buf.now - a.at) (sym c.line_fits.ensures ∙ c.if-not-line_fits.false) in
-    omega (arith, line_long_lem a.word.now a.numbers.now, c.copy_to.auto.0)
+    omega (arith, line_long_lem a.word.now a.numbers.now, c.copy_to.auto.buf)
 
 pub returns : goal.returns
 returns c =
@@ -41,5 +41,5 @@ returns c =
     let s = line_of a.word.now a.numbers.now in
     let h = leb-true (length s) (length a.buf.now - a.at) (sym c.line_fits.ensures ∙ c.if-not-line_fits.false) in
     let p = c.put_rest in
-    let e = put_line a.buf.now c.copy_to.new.0 p.new.0 a.word.now a.numbers.now a.at (omega arith) c.copy_to.ensures p.ensures.1 in
-    (p.ensures.0 ∙ omega (arith, next_fits a.buf.now a.at s (omega arith), line_long_lem a.word.now a.numbers.now), e ∙ sym (written_fits a.buf.now a.at s (omega arith)))
+    let e = put_line a.buf.now c.copy_to.new.buf p.new.buf a.word.now a.numbers.now a.at (omega arith) c.copy_to.ensures p.ensures.1 in
+    record { value = p.ensures.0 ∙ omega (arith, next_fits a.buf.now a.at s (omega arith), line_long_lem a.word.now a.numbers.now); buf_after = e ∙ sym (written_fits a.buf.now a.at s (omega arith)) }

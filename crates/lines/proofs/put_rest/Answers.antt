@@ -41,7 +41,7 @@ loop-i-preserved c =
     let p = c.put_decimal-end in
     let h : l.i < length a.numbers.now = omega arith in
     let r = room_next a.numbers.now l.i h in
-    let e = put_number a.buf.now l.buf _ p.new.0 a.numbers.now a.at l.end l.i h (omega arith) l.invariant.3 l.invariant.2 refl p.ensures.1 in
+    let e = put_number a.buf.now l.buf _ p.new.buf a.numbers.now a.at l.end l.i h (omega arith) l.invariant.3 l.invariant.2 refl p.ensures.1 in
     let m = spaced_longer a.numbers.now l.i h in
     (search rules, ap length e ∙ put_length a.buf.now a.at (spaced (take (l.i + 1) a.numbers.now)) (omega arith), p.ensures.0 ∙ omega arith, e)
 
