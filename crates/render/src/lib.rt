@@ -45,8 +45,8 @@ fn put_task(text: &mut [u8], at: usize, x: Task, row: &[u32]) -> usize
 
 // A line for each task of a table; the first one's row is row j of the report.
 fn put_tasks(text: &mut [u8], at: usize, table: Table, j: usize, report: &[u32]) -> usize
-    requires tasks_len { (length table.tasks ≡ most_tasks) × (table.count ≤ most_tasks) }
-    requires count_in_bounds { (at + most_line * table.count ≤ length text.old) × (row_size * (j + table.count) ≤ length report.now) }
+    requires tabled { (length table.tasks ≡ most_tasks) × (table.count ≤ most_tasks) }
+    requires room { (at + most_line * table.count ≤ length text.old) × (row_size * (j + table.count) ≤ length report.now) }
     ensures value { (result ≡ at + length (task_lines report.now j (listed table))) × (result ≤ at + most_line * table.count) }
     ensures text_after { text.new ≡ put text.old at (task_lines report.now j (listed table)) }
 {
@@ -120,7 +120,7 @@ fn put_text(text: &mut [u8], input: &[u8]) -> usize
 pub fn render(input: &[u8], out: &mut [u8]) -> usize
     ensures value { result ≡ next out.old 0 (printed input.now) }
     ensures out_after { out.new ≡ written out.old 0 (printed input.now) }
-    ensures input_len_bound { length (printed input.now) ≤ most_text }
+    ensures bounded { length (printed input.now) ≤ most_text }
 {
     let mut text = [0u8; MOST_TEXT];
     let end = put_text(&mut text, input);

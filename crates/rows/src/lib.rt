@@ -70,7 +70,7 @@ fn fill(
     new: Table,
 ) -> Verdict
     requires told { Told 0 old olds.now × Told 1 new news.now }
-    requires term_room_in_bounds { (term_room ≤ length before.old) × (term_room ≤ length after.old) × (report_room ≤ length numbers.old) }
+    requires room { (term_room ≤ length before.old) × (term_room ≤ length after.old) × (report_room ≤ length numbers.old) }
     ensures { (length numbers.new ≡ length numbers.old) × Filled (listed old) (listed new) numbers.new result }
 {
     let n = old.count;

@@ -279,7 +279,7 @@ fn backwards<'a>(
     first: u64,
 ) -> Tried
     requires ready { Ready old.now n × Ready new.now k × (1 ≤ c) × (c ≤ limit) × (limit < 65536) }
-    requires limit_value { (window_at (flat_demand old.now n new.now k c) limit limit ≡ some settled) × (window_at (flat_demand old.now n new.now k c) limit 1 ≡ some first) }
+    requires known { (window_at (flat_demand old.now n new.now k c) limit limit ≡ some settled) × (window_at (flat_demand old.now n new.now k c) limit 1 ≡ some first) }
     ensures { Tells (window_at (flat_demand old.now n new.now k c) limit) limit result }
 {
     let one = Worst {
@@ -320,7 +320,7 @@ fn try_back<'a>(
     settled: u64,
 ) -> Tried
     requires ready { Ready old.now n × Ready new.now k × (1 ≤ c) × (c ≤ limit) × (limit < 65536) }
-    requires limit_value { window_at (flat_demand old.now n new.now k c) limit limit ≡ some settled }
+    requires known { window_at (flat_demand old.now n new.now k c) limit limit ≡ some settled }
     ensures { Tells (window_at (flat_demand old.now n new.now k c) limit) limit result }
 {
     match search(old, n, new, k, c, 1, c, limit) {

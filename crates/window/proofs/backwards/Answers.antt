@@ -15,45 +15,42 @@ loop-x-init c =
     let a = c.args in
     let q = c.requires in
     let f = flat_demand a.old.now a.n a.new.now a.k a.c in
-    let fam = flat_family a.old.now a.n a.new.now a.k a.c q.0.2 in
-    let g = start f a.c a.limit fam a.settled a.first q.1.0 q.1.1 in
+    let fam = flat_family a.old.now a.n a.new.now a.k a.c q.ready.2 in
+    let g = start f a.c a.limit fam a.settled a.first q.known.0 q.known.1 in
     rw c.take.ensures (g.held, λ y h l. g.fine y h)
 
 pub prev_phase-z-requires : goal.prev_phase-z-requires
 prev_phase-z-requires c =
     let h = c.loop-x.invariant.0 in
-    (c.requires.0.0, omega (arith, h.past, h.far, h.by, h.fits))
+    (c.requires.ready.0, omega (arith, h.past, h.far, h.by, h.fits))
 
 pub look-requires : goal.look-requires
 look-requires c =
-    let level : Level (old_sum c.args.old.now c.args.n) (c.loop-x.x - 2) c.prev_phase-z.result = rw c.prev_phase-z.ensures (phase_level c.args.old.now c.args.n (c.loop-x.x - 2) c.requires.0.0) in
+    let level : Level (old_sum c.args.old.now c.args.n) (c.loop-x.x - 2) c.prev_phase-z.result = rw c.prev_phase-z.ensures (phase_level c.args.old.now c.args.n (c.loop-x.x - 2) c.requires.ready.0) in
     let positive : 1 ≤ c.prev_phase-z.result = rw c.prev_phase-z.ensures (phase_some c.args.old.now c.args.n (c.loop-x.x - 2)) in
     let a = c.args in
     let q = c.requires in
     let f = flat_demand a.old.now a.n a.new.now a.k a.c in
-    let fam = flat_family a.old.now a.n a.new.now a.k a.c q.0.2 in
-    let l = c.loop-x in (
-      (q.0.0, q.0.1, q.0.2, q.0.3, q.0.4, positive),
-      held_less f a.c a.limit fam l.x (c.prev_phase-z.result + 1) l.s (omega (arith, level.within)) l.invariant.0,
-    )
+    let fam = flat_family a.old.now a.n a.new.now a.k a.c q.ready.2 in
+    let l = c.loop-x in record { ready = (q.ready.0, q.ready.1, q.ready.2, q.ready.3, q.ready.4, positive); held = held_less f a.c a.limit fam l.x (c.prev_phase-z.result + 1) l.s (omega (arith, level.within)) l.invariant.0 }
 
 pub loop-x-smaller : goal.loop-x-smaller
 loop-x-smaller c =
-    let level : Level (old_sum c.args.old.now c.args.n) (c.loop-x.x - 2) c.prev_phase-z.result = rw c.prev_phase-z.ensures (phase_level c.args.old.now c.args.n (c.loop-x.x - 2) c.requires.0.0) in
+    let level : Level (old_sum c.args.old.now c.args.n) (c.loop-x.x - 2) c.prev_phase-z.result = rw c.prev_phase-z.ensures (phase_level c.args.old.now c.args.n (c.loop-x.x - 2) c.requires.ready.0) in
     omega (arith, level.within)
 
 pub loop-x-preserved : goal.loop-x-preserved
 unfolding Turned
 loop-x-preserved c =
-    let level : Level (old_sum c.args.old.now c.args.n) (c.loop-x.x - 2) c.prev_phase-z.result = rw c.prev_phase-z.ensures (phase_level c.args.old.now c.args.n (c.loop-x.x - 2) c.requires.0.0) in
+    let level : Level (old_sum c.args.old.now c.args.n) (c.loop-x.x - 2) c.prev_phase-z.result = rw c.prev_phase-z.ensures (phase_level c.args.old.now c.args.n (c.loop-x.x - 2) c.requires.ready.0) in
     let a = c.args in
     let q = c.requires in
     let f = flat_demand a.old.now a.n a.new.now a.k a.c in
-    let fam = flat_family a.old.now a.n a.new.now a.k a.c q.0.2 in
+    let fam = flat_family a.old.now a.n a.new.now a.k a.c q.ready.2 in
     let l = c.loop-x in
     let z = c.prev_phase-z.result in
     let g = level in
-    let w = rw c.r-1.given.1 at c.look.ensures in
+    let w = rw c.in-On.is at c.look.ensures in
     let calm : (y : ℕ) → z ≤ y → y < l.x → (t : ℕ) → f y t ≤ f z t =
     λ y h i t. flat_calm a.old.now a.n a.new.now a.k a.c z y t h (g.level z y (omega arith) h (omega arith)) in
     (w.held, λ y h i. ⊎_elim (λ j. w.keeps y (omega (arith, g.within)) (l.invariant.1 y j i)) (λ j. fine_still f a.c a.limit fam _ z y h (calm y h j) w.fine) (le_or_lt l.x y))
@@ -68,7 +65,7 @@ returns c =
     let a = c.args in
     let q = c.requires in
     let f = flat_demand a.old.now a.n a.new.now a.k a.c in
-    let fam = flat_family a.old.now a.n a.new.now a.k a.c q.0.2 in
+    let fam = flat_family a.old.now a.n a.new.now a.k a.c q.ready.2 in
     let l = c.loop-x in
     let h = l.invariant.0 in
     sweep_all f a.c a.limit fam l.s.best h.fits h.shown h.inside h.gives (λ y i j. l.invariant.1 y (omega arith) j)

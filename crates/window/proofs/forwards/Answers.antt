@@ -17,7 +17,7 @@ loop-x-init c =
 pub see-requires : goal.see-requires
 see-requires c =
     let q = c.requires in
-    ((q.0, q.1, q.2, q.3, q.4, omega arith), c.loop-x.invariant)
+    record { ready = (q.0, q.1, q.2, q.3, q.4, omega arith); kept = c.loop-x.invariant }
 
 pub returns-then-r-x : goal.returns-then-r-x
 unfolding Stepped
@@ -27,7 +27,7 @@ returns-then-r-x c =
     let l = c.loop-x in
     let f = flat_demand a.old.now a.n a.new.now a.k a.c in
     let fam = flat_family a.old.now a.n a.new.now a.k a.c q.2 in
-    let w = rw c.r-1.given.1 at c.see.ensures in
+    let w = rw c.in-Go.is at c.see.ensures in
     sym (sweep_early f a.c a.limit fam l.x l.s l.invariant _ w (omega arith) c.if-r-x.true)
 
 pub next_phase-x-requires : goal.next_phase-x-requires
@@ -48,7 +48,7 @@ loop-x-preserved c =
     let l = c.loop-x in
     let f = flat_demand a.old.now a.n a.new.now a.k a.c in
     let fam = flat_family a.old.now a.n a.new.now a.k a.c q.2 in
-    let w = rw c.r-1.given.1 at c.see.ensures in
+    let w = rw c.in-Go.is at c.see.ensures in
     let g = still in
     kept_next f a.c a.limit fam l.x l.s l.invariant _ w _ g.later within (λ y t h i. flat_calm a.old.now a.n a.new.now a.k a.c l.x y t h (g.still y h i))
 
@@ -60,7 +60,7 @@ returns-in-Stop c =
     let l = c.loop-x in
     let f = flat_demand a.old.now a.n a.new.now a.k a.c in
     let fam = flat_family a.old.now a.n a.new.now a.k a.c q.2 in
-    let w = rw c.enum_told-1.given.1 at c.see.ensures in
+    let w = rw c.in-Stop.is at c.see.ensures in
     sym (sweep_late f a.c a.limit fam l.x l.s l.invariant (omega arith) w)
 
 pub returns : goal.returns

@@ -12,7 +12,7 @@ use Rattle.window.proofs.search.Goals as goal
 pub demand-d-requires : goal.demand-d-requires
 demand-d-requires c =
     let p = c.requires in
-    (p.0.0, p.0.1, p.0.2, omega (arith, c.loop-t.invariant.within))
+    (p.ready.0, p.ready.1, p.ready.2, omega (arith, c.loop-t.invariant.within))
 
 pub loop-t-smaller : goal.loop-t-smaller
 loop-t-smaller c = omega (arith, c.if-d-t.false)
