@@ -1,0 +1,6 @@
+use borrow.Author.Rules.{rules}
+use Rattle.row.proofs.timely.Goals as goal
+
+pub returns : goal.returns
+returns c =
+    rw (c.narrow.ensures, c.narrow-2.ensures, c.narrow-3.ensures)

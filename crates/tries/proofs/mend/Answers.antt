@@ -1,0 +1,9 @@
+-- `mend` puts the check where it stands.
+use Rattle.tries.specs.Tries.{mended}
+use borrow.Author.Rules.{rules}
+use Rattle.tries.proofs.mend.Goals as goal
+
+pub returns : goal.returns
+unfolding mended
+returns c =
+    rw (c.put_check.ensures, c.check_of-sum.ensures)
