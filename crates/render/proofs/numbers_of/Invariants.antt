@@ -1,0 +1,19 @@
+-- The numbers up to i of the row stand behind the task's own; the rest is still zero.
+use Prim.Native.Nat.{ℕ, ◌+◌, ◌*◌, ◌-◌, ◌≤◌, ◌<◌}
+use mathlib.Core.Path.{◌≡◌, refl, sym, ap, ◌∙◌}
+use mathlib.Core.List.{List, ◌∷◌, ◌++◌}
+use lib.ListN.{length, take, drop, replicate, length-set}
+use lib.Seq.{take_all}
+use Rattle.base.proofs.Lists.{over_end, over_same}
+use Rattle.lines.specs.Line.{spaced}
+use Rattle.rows.specs.Rows.{row_size}
+use Rattle.render.proofs.Printed.{number_room, row_more, row_room}
+use borrow.Author.Rules.{rules}
+use native.Mathlib.Omega.{arith}
+use Rattle.render.proofs.numbers_of.Given as goal
+
+abbrev pub invariant-loop-i : goal.invariant-loop-i
+invariant-loop-i l = (l.i ≤ row_size) × (length l.row ≡ row_size) × (length l.numbers ≡ 1 + row_size) × (l.numbers ≡ take (l.i + 1) (l.number ∷ l.row) ++ drop (l.i + 1) (replicate {A = ℕ} (1 + row_size) 0)) × (length (spaced (take (l.i + 1) (l.number ∷ l.row))) ≤ 6 + 11 * l.i)
+
+abbrev pub decreases-loop-i : goal.decreases-loop-i
+decreases-loop-i l = row_size - l.i
