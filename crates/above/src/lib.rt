@@ -1,6 +1,7 @@
 // The tasks above a rank, as flat terms. The tasks of a side are rolled out once, each row gathers from the roll.
 
 #![tactic(auto)]
+
 ghost use Rattle.std.specs.Prelude.{◌≡◌, ◌+◌, ◌*◌, ◌≤◌, ◌<◌, cond, length, eqb, ltb};
 ghost use Rattle.base.specs.Numbers.{recip_of};
 ghost use Rattle.window.specs.Order.{rank};

@@ -1,6 +1,7 @@
 // The row of one task, or its lateness, from the rolls of both tables.
 
 #![tactic(auto)]
+
 ghost use Rattle.std.specs.Prelude.{◌≡◌, ◌*◌, ◌≤◌, length};
 ghost use Rattle.window.specs.Order.{completed, new, kind_of, rank};
 ghost use Rattle.window.specs.Demand.{own_time};

@@ -1,6 +1,7 @@
 // A task as an entry of a list: whether its numbers fit, the task that it says, the entry of a task. The definitions that the contracts cite stand in the specs of block.
 
 #![tactic(auto)]
+
 ghost use Rattle.std.specs.Prelude.{◌≡◌, true, length};
 ghost use Rattle.block.specs.Format.{list_size};
 ghost use Rattle.block.specs.Record.{numbers_of, all_below, task_from, fits};

@@ -1,6 +1,7 @@
 // The analysis of two blocks.
 
 #![tactic(auto)]
+
 ghost use Rattle.std.specs.Prelude.{◌≡◌};
 ghost use Rattle.block.specs.Answers.{answer};
 ghost use Rattle.block.specs.Block.{listed};

@@ -1,6 +1,7 @@
 // The parts of a block that is written, each put into its place: the head, a record, the check. The definitions that the contracts cite stand in the specs of block.
 
 #![tactic(auto)]
+
 ghost use Rattle.std.specs.Prelude.{◌≡◌, ◌++◌, ◌-◌, length, replicate};
 ghost use Rattle.block.specs.Format.{block_size, record_size, head_size};
 ghost use Rattle.block.specs.Record.{word_bytes, record_of};

@@ -1,6 +1,7 @@
 // A task as sixteen bytes of a block: the task that they say, the rules of a record, what two records share. The definitions that the contracts cite stand in the specs of block.
 
 #![tactic(auto)]
+
 ghost use Rattle.std.specs.Prelude.{◌≡◌, length, ◌<◌};
 ghost use Rattle.block.specs.Format.{block_size, most_tasks, record_size};
 ghost use Rattle.block.specs.Block.{record_part};

@@ -1,6 +1,7 @@
 // The row of one task, or its lateness, from the terms of the tasks above it.
 
 #![tactic(auto)]
+
 ghost use Rattle.std.specs.Prelude.{◌≡◌, ◌+◌, ◌<◌, ◌≤◌};
 ghost use Rattle.term.specs.Terms.{Ready, flat_demand};
 ghost use Rattle.window.specs.Demand.{own_time};

@@ -1,6 +1,7 @@
 // The rows of a pair: the row of each task, or the first late one.
 
 #![tactic(auto)]
+
 ghost use Rattle.std.specs.Prelude.{◌≡◌, ◌+◌, ◌*◌, ◌<◌, ◌≤◌, length};
 ghost use Rattle.std.proofs.lemmas.List.Edits.{sets};
 ghost use Rattle.block.specs.Answers.{first_of};

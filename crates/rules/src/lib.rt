@@ -1,6 +1,7 @@
 // The rules of one task, and the refusal that every check gives. The definitions that the contracts cite stand in the specs of block.
 
 #![tactic(auto)]
+
 ghost use Rattle.std.specs.Prelude.{◌≡◌, min};
 ghost use Rattle.block.specs.Answers.{refusal, first_of};
 ghost use Rattle.block.specs.Checks.{kind_on, task_checks};

@@ -1,6 +1,7 @@
 // Demands over flat terms, and the next phase at which the old terms grow. Divides by reciprocals, knows no task.
 
 #![tactic(auto)]
+
 ghost use Rattle.std.specs.Prelude.{◌≡◌, ◌+◌, ◌*◌, ◌/◌, ◌<◌, ◌≤◌, ◌-◌, min, max};
 ghost use Rattle.base.specs.Numbers.{jobs_in, cut_in, recip_of};
 ghost use Rattle.term.specs.Terms.{Good, Ready, before, old_sum, new_sum, flat_demand, grows_by, next_of, next_phase, prev_of, prev_phase};

@@ -1,6 +1,7 @@
 // The search for the least closing t, and the worst window over all phases.
 
 #![tactic(auto)]
+
 ghost use Rattle.std.specs.Prelude.{◌≡◌, ◌+◌, ◌<◌, ◌≤◌, ◌-◌, min, max, cond, ltb};
 ghost use Rattle.base.specs.Search.{window_of, Climbs};
 ghost use Rattle.term.specs.Terms.{Ready, flat_demand};

@@ -1,6 +1,7 @@
 // Halves, words and zero bytes of a block, and its check. The definitions that the contracts cite stand in the specs of block.
 
 #![tactic(auto)]
+
 ghost use Rattle.std.specs.Prelude.{◌≡◌, ◌+◌, ◌<◌, max, length};
 ghost use Rattle.block.specs.Format.{block_size};
 ghost use Rattle.block.specs.Record.{half_at, word_at, all_zero};

@@ -1,4 +1,3 @@
-use borrow.Author.Rules.{rules}
 use native.Mathlib.Omega.{arith}
 use Rattle.base.specs.Numbers.{recip_of}
 use Prim.Native.Nat.{suc, ◌+◌}

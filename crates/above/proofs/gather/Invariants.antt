@@ -1,12 +1,7 @@
-use borrow.Author.Rules.{rules}
-use native.Mathlib.Omega.{arith}
-use Rattle.base.specs.Sums.{sum}
-use Prim.Native.Nat.{◌≤◌, ◌-◌, ◌+◌}
-use mathlib.Core.Path.{◌≡◌, refl, ◌∙◌, ap}
-use native.Mathlib.Numerals.{add-one}
+use Prim.Native.Nat.{◌≤◌, ◌-◌}
+use mathlib.Core.Path.{◌≡◌}
 use lib.ListN.{length}
-use Rattle.above.specs.Roll.{is_above, count_above, terms_above}
-use Rattle.above.proofs.Above.{one_le, count_more, terms_length}
+use Rattle.above.specs.Roll.{count_above, terms_above}
 use Rattle.above.proofs.gather.Given as goal
 
 abbrev pub invariant-loop-j : goal.invariant-loop-j

@@ -1,6 +1,6 @@
 use borrow.Author.Rules.{rules}
 use native.Mathlib.Omega.{arith}
-use Prim.Native.Nat.{◌≤◌, ◌-◌, ◌+◌, ◌*◌}
+use Prim.Native.Nat.{◌+◌}
 use mathlib.Core.Path.{◌≡◌}
 use Rattle.base.specs.Sums.{sum}
 use Rattle.term.proofs.Terms.{sum_more}

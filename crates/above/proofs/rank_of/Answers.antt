@@ -1,4 +1,3 @@
-use borrow.Author.Rules.{rules}
 use native.Mathlib.Omega.{arith}
 use Rattle.window.specs.Order.{rank}
 use Rattle.window.proofs.Sides.{side_old, side_new}

@@ -1,5 +1,4 @@
 -- `recip` divides 2^31 and takes what is left over 512-fold: together that is 2^40 over p, rounded up.
-use borrow.Author.Rules.{rules}
 use native.Mathlib.Omega.{arith}
 use native.Mathlib.Nat.{div-add-mod', mod-lt, mul_assoc, mul-add-div_right}
 use Prim.Native.Nat.{ℕ, ◌+◌, ◌*◌, ◌-◌, ◌/◌, ◌≤◌, ◌<◌}

@@ -1,10 +1,9 @@
 use borrow.Author.Rules.{rules}
 use native.Mathlib.Omega.{arith}
-use Prim.Native.Nat.{◌≤◌, ◌-◌}
 use mathlib.Core.Path.{◌≡◌, refl, ap, ◌∙◌}
 use lib.ListN.{length, get_or}
 use Rattle.block.specs.Checks.{no_task}
-use Rattle.above.specs.Roll.{roll_of, Rolled}
+use Rattle.above.specs.Roll.{roll_of}
 use Rattle.above.proofs.Above.{roll_length, rolled_none, roll_room_lem, roll_more}
 use Rattle.above.proofs.roll.Goals as goal
 

@@ -1,11 +1,6 @@
-use borrow.Author.Rules.{rules}
-use native.Mathlib.Omega.{arith}
 use Prim.Native.Nat.{◌≤◌, ◌-◌}
-use mathlib.Core.Path.{◌≡◌, refl, ap, ◌∙◌}
-use lib.ListN.{length, get_or}
-use Rattle.block.specs.Checks.{no_task}
+use mathlib.Core.Path.{◌≡◌}
 use Rattle.above.specs.Roll.{roll_of, Rolled}
-use Rattle.above.proofs.Above.{roll_length, rolled_none, roll_room_lem, roll_more}
 use Rattle.above.proofs.roll.Given as goal
 
 abbrev pub invariant-loop-j : goal.invariant-loop-j

@@ -1,11 +1,8 @@
 -- `copy_bytes` lays src over the front of dst. Invariant: the first i bytes are those of src, the rest is as it was.
-use Rattle.base.proofs.Lists.{over_more, over_end}
-use lib.ListN.{length, take, drop, length-set}
+use lib.ListN.{length, take, drop}
 use mathlib.Core.List.{◌++◌}
-use mathlib.Core.Path.{◌≡◌, refl}
+use mathlib.Core.Path.{◌≡◌}
 use Prim.Native.Nat.{◌≤◌, ◌-◌, min}
-use borrow.Author.Rules.{rules}
-use native.Mathlib.Omega.{arith}
 use Rattle.base.proofs.copy_bytes.Given as goal
 
 abbrev pub invariant-loop-i : goal.invariant-loop-i

@@ -1,8 +1,6 @@
 use Rattle.base.proofs.Lists.{over_more, over_end}
-use lib.ListN.{length, take, drop, length-set}
-use mathlib.Core.List.{◌++◌}
-use mathlib.Core.Path.{◌≡◌, refl}
-use Prim.Native.Nat.{◌≤◌, ◌-◌, min}
+use lib.ListN.{length-set}
+use mathlib.Core.Path.{refl}
 use borrow.Author.Rules.{rules}
 use native.Mathlib.Omega.{arith}
 use Rattle.base.proofs.copy_numbers.Goals as goal

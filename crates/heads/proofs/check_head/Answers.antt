@@ -3,9 +3,7 @@ use Rattle.block.proofs.Heads.{seal_length, head_unsealed, head_unmarked, head_w
 use Rattle.block.specs.Block.{seal_checks}
 use Rattle.block.specs.Answers.{first_of}
 use Rattle.block.specs.declared.Verdict.TheVariants.{Passed}
-use borrow.Author.Tests.{not-true, not-false}
 use mathlib.Core.Path.{◌≡◌, sym, ◌∙◌}
-use borrow.Author.Rules.{rules}
 use Rattle.heads.proofs.check_head.Goals as goal
 
 pub returns-in-Refused : goal.returns-in-Refused

@@ -2,7 +2,6 @@
 use Rattle.block.proofs.Heads.{sealed_as, seal_short, seal_wrong, seal_passes}
 use borrow.Author.Tests.{eq-eqb, ne_eqb}
 use mathlib.Core.Path.{sym, ◌∙◌}
-use borrow.Author.Rules.{rules}
 use Rattle.heads.proofs.check_seal.Goals as goal
 
 pub returns-then-block-ne-BLOCK_SIZE : goal.returns-then-block-ne-BLOCK_SIZE

@@ -1,7 +1,6 @@
 -- `is_headed` says whether the side is one, the block's own, the count at most 30 and bytes 6-7 zero.
 use Rattle.block.specs.Block.{headed}
 use borrow.Author.Tests.{eq-eqb, ne_eqb, le-leb, lt-leb}
-use borrow.Author.Rules.{rules}
 use Rattle.heads.proofs.is_headed.Goals as goal
 
 pub returns-then-side-gt1 : goal.returns-then-side-gt1

@@ -1,6 +1,5 @@
 -- `is_marked` says whether a block has a mark.
 use borrow.Author.Tests.{eq-eqb, ne_eqb}
-use borrow.Author.Rules.{rules}
 use Rattle.heads.proofs.is_marked.Goals as goal
 
 pub returns-then-block-first : goal.returns-then-block-first

@@ -1,4 +1,3 @@
-use borrow.Author.Rules.{rules}
 use native.Mathlib.Omega.{arith}
 use Rattle.above.proofs.Above.{terms_ready}
 use Rattle.judge.proofs.completed.Goals as goal

@@ -4,7 +4,6 @@ use mathlib.Core.Path.{ap, ◌∙◌}
 use mathlib.Core.List.{List, ◌++◌}
 use lib.ListN.{length, take, drop}
 use Rattle.lines.proofs.Put.{put_part}
-use borrow.Author.Rules.{rules}
 use Rattle.lines.proofs.copy_to.Goals as goal
 
 pub returns : goal.returns

@@ -1,9 +1,4 @@
-use Prim.Native.Nat.{◌+◌, ◌≤◌}
-use mathlib.Core.Path.{◌≡◌}
-use lib.ListN.{length}
-use Rattle.lines.specs.Line.{decimal}
 use Rattle.lines.proofs.Decimal.{room_few, room_step}
-use borrow.Author.Rules.{rules}
 use native.Mathlib.Omega.{arith}
 use Rattle.lines.proofs.digit_count.Goals as goal
 

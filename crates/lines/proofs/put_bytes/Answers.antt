@@ -1,7 +1,6 @@
 -- The bytes fit or stay out, by the two tests on the room.
 use mathlib.Core.Path.{sym, ◌∙◌}
 use Rattle.lines.proofs.Put.{next_fits, next_stays, written_fits, written_stays}
-use borrow.Author.Rules.{rules}
 use native.Mathlib.Omega.{arith}
 use Rattle.lines.proofs.put_bytes.Goals as goal
 

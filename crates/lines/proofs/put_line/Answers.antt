@@ -2,11 +2,10 @@
 use Prim.Native.Nat.{◌-◌}
 use mathlib.Core.Path.{sym, ◌∙◌}
 use lib.ListN.{length}
-use borrow.Author.Tests.{leb-true, leb-false, not-true, not-false}
+use borrow.Author.Tests.{leb-true, leb-false}
 use Rattle.lines.specs.Line.{line_of}
 use Rattle.lines.proofs.Put.{next_fits, next_stays, written_fits, written_stays}
 use Rattle.lines.proofs.Line.{line_long_lem, put_line}
-use borrow.Author.Rules.{rules}
 use native.Mathlib.Omega.{arith}
 use Rattle.lines.proofs.put_line.Goals as goal
 

@@ -1,15 +1,9 @@
 -- The numbers up to i stand from the place on, each behind its space; the line feed ends them.
-use borrow.Author.Rules.{rules}
-use Prim.Native.Nat.{ℕ, ◌+◌, ◌-◌, ◌≤◌, ◌<◌}
-use mathlib.Core.List.{List}
-use mathlib.Core.Path.{◌≡◌, refl, ap, ◌∙◌}
-use lib.ListN.{length, take, length-set}
-use lib.Seq.{take_all}
+use Prim.Native.Nat.{◌+◌, ◌-◌, ◌≤◌}
+use mathlib.Core.Path.{◌≡◌}
+use lib.ListN.{length, take}
 use Rattle.lines.specs.Put.{put}
-use Rattle.lines.proofs.Put.{put_length, put_nothing}
 use Rattle.lines.specs.Line.{spaced}
-use Rattle.lines.proofs.Line.{spaced_longer, room_next, rest_long, put_number, put_end}
-use native.Mathlib.Omega.{arith}
 use Rattle.lines.proofs.put_rest.Given as goal
 
 abbrev pub invariant-loop-i : goal.invariant-loop-i

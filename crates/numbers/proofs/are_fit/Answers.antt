@@ -1,6 +1,5 @@
 -- `are_fit` says whether the numbers of an entry fit their fields.
 use mathlib.Core.Path.{sym, ◌∙◌}
-use borrow.Author.Rules.{rules}
 use Rattle.numbers.proofs.are_fit.Goals as goal
 
 pub returns-then-all_below : goal.returns-then-all_below

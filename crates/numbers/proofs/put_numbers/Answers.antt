@@ -3,7 +3,6 @@ use Rattle.block.specs.Record.{numbers_of}
 use Rattle.base.proofs.Lists.{over_same}
 use mathlib.Core.List.{[], ◌∷◌}
 use mathlib.Core.Path.{◌∙◌, sym}
-use borrow.Author.Rules.{rules}
 use Rattle.numbers.proofs.put_numbers.Goals as goal
 
 pub returns : goal.returns

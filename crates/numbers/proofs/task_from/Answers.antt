@@ -3,7 +3,6 @@ use Rattle.layout.proofs.Entries.{entry_small}
 use Rattle.block.specs.Legal.{Small}
 use Rattle.block.specs.Record.{task_from}
 use mathlib.Core.Path.{refl}
-use borrow.Author.Rules.{rules}
 use native.Mathlib.Omega.{arith}
 use Rattle.numbers.proofs.task_from.Goals as goal
 

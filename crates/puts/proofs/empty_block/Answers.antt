@@ -4,7 +4,6 @@ use lib.ListN.{replicate}
 use Prim.Native.Nat.{ℕ, ◌-◌}
 use mathlib.Core.List.{List, ◌++◌}
 use mathlib.Core.Path.{ap}
-use borrow.Author.Rules.{rules}
 use Rattle.puts.proofs.empty_block.Goals as goal
 
 pub returns : goal.returns

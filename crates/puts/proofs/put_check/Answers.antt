@@ -1,7 +1,6 @@
 -- `put_check` puts the check's four bytes into their part of a block.
 use Rattle.base.proofs.Lists.{over_same}
 use mathlib.Core.Path.{◌∙◌, sym}
-use borrow.Author.Rules.{rules}
 use Rattle.puts.proofs.put_check.Goals as goal
 
 pub returns : goal.returns

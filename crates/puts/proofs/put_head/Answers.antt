@@ -2,7 +2,6 @@
 use Rattle.block.specs.Block.{head_of}
 use Rattle.base.proofs.Lists.{over_same}
 use mathlib.Core.Path.{◌∙◌, sym}
-use borrow.Author.Rules.{rules}
 use Rattle.puts.proofs.put_head.Goals as goal
 
 pub returns : goal.returns

@@ -2,7 +2,6 @@
 use Rattle.block.specs.Checks.{alike}
 use Rattle.block.specs.Record.{task_of}
 use borrow.Author.Tests.{eq-eqb, ne_eqb}
-use borrow.Author.Rules.{rules}
 use Rattle.records.proofs.are_alike.Goals as goal
 
 pub returns-then-half_at : goal.returns-then-half_at

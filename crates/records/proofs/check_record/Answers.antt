@@ -6,7 +6,6 @@ use Rattle.block.specs.Record.{task_of}
 use Rattle.block.specs.declared.Task.{Task}
 use mathlib.Core.Bool.{Bool, not}
 use mathlib.Core.Path.{◌≡◌, sym, ap, ◌∙◌}
-use borrow.Author.Rules.{rules}
 use Rattle.records.proofs.check_record.Goals as goal
 
 pub returns-then-all_zero : goal.returns-then-all_zero

@@ -1,6 +1,5 @@
 -- `record_at` gives the task that sixteen bytes say.
 use Rattle.block.specs.Record.{byte_at, task_of}
-use borrow.Author.Rules.{rules}
 use Rattle.records.proofs.record_at.Goals as goal
 
 pub returns : goal.returns

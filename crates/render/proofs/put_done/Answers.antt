@@ -16,7 +16,7 @@ use Rattle.render.proofs.put_done.Goals as goal
 
 pub put_tasks-middle-requires : goal.put_tasks-middle-requires
 put_tasks-middle-requires c =
-    let change-at : (c.put_line-first.result ≡ 0 + length (change_line c.args.a c.args.b)) × (c.put_line-first.new.buf ≡ put c.args.text.now 0 (change_line c.args.a c.args.b)) × (length (change_line c.args.a c.args.b) ≤ most_change) = (let a = c.args in
+    let change_at : (c.put_line-first.result ≡ 0 + length (change_line c.args.a c.args.b)) × (c.put_line-first.new.buf ≡ put c.args.text.now 0 (change_line c.args.a c.args.b)) × (length (change_line c.args.a c.args.b) ≤ most_change) = (let a = c.args in
     let s = change_line a.a a.b in
     let p = c.put_line-first in
     let q = change_line_lem a.a a.b c.wider.result c.wider-2.result c.wider.ensures.0 c.wider-2.ensures.0 in
@@ -24,12 +24,12 @@ put_tasks-middle-requires c =
     let h : 0 + length s ≤ length a.text.now = omega (arith, c.requires.2) in
     (p.ensures.value ∙ ap (next a.text.now 0) q ∙ next_fits a.text.now 0 s h, p.ensures.buf_after ∙ ap (written a.text.now 0) q ∙ written_fits a.text.now 0 s h, r)) in
     let f = c.requires in
-    let e = change-at in
+    let e = change_at in
     record { tabled = (f.0.places, f.0.few); room = (omega (arith, e.0, e.2, f.0.few, c.put_line-first.auto.buf, f.2), omega (arith, f.0.few, f.3)) }
 
 pub put_tasks-requires : goal.put_tasks-requires
 put_tasks-requires c =
-    let change-at : (c.put_line-first.result ≡ 0 + length (change_line c.args.a c.args.b)) × (c.put_line-first.new.buf ≡ put c.args.text.now 0 (change_line c.args.a c.args.b)) × (length (change_line c.args.a c.args.b) ≤ most_change) = (let a = c.args in
+    let change_at : (c.put_line-first.result ≡ 0 + length (change_line c.args.a c.args.b)) × (c.put_line-first.new.buf ≡ put c.args.text.now 0 (change_line c.args.a c.args.b)) × (length (change_line c.args.a c.args.b) ≤ most_change) = (let a = c.args in
     let s = change_line a.a a.b in
     let p = c.put_line-first in
     let q = change_line_lem a.a a.b c.wider.result c.wider-2.result c.wider.ensures.0 c.wider-2.ensures.0 in
@@ -37,13 +37,13 @@ put_tasks-requires c =
     let h : 0 + length s ≤ length a.text.now = omega (arith, c.requires.2) in
     (p.ensures.value ∙ ap (next a.text.now 0) q ∙ next_fits a.text.now 0 s h, p.ensures.buf_after ∙ ap (written a.text.now 0) q ∙ written_fits a.text.now 0 s h, r)) in
     let f = c.requires in
-    let e = change-at in
+    let e = change_at in
     let p = c.put_tasks-middle in
     record { tabled = (f.1.places, f.1.few); room = (omega (arith, e.0, e.2, f.0.few, f.1.few, p.ensures.value.1, p.auto.text, c.put_line-first.auto.buf, f.2), omega (arith, f.0.few, f.1.few, f.3)) }
 
 pub returns : goal.returns
 returns c =
-    let change-at : (c.put_line-first.result ≡ 0 + length (change_line c.args.a c.args.b)) × (c.put_line-first.new.buf ≡ put c.args.text.now 0 (change_line c.args.a c.args.b)) × (length (change_line c.args.a c.args.b) ≤ most_change) = (let a = c.args in
+    let change_at : (c.put_line-first.result ≡ 0 + length (change_line c.args.a c.args.b)) × (c.put_line-first.new.buf ≡ put c.args.text.now 0 (change_line c.args.a c.args.b)) × (length (change_line c.args.a c.args.b) ≤ most_change) = (let a = c.args in
     let s = change_line a.a a.b in
     let p = c.put_line-first in
     let q = change_line_lem a.a a.b c.wider.result c.wider-2.result c.wider.ensures.0 c.wider-2.ensures.0 in
@@ -52,7 +52,7 @@ returns c =
     (p.ensures.value ∙ ap (next a.text.now 0) q ∙ next_fits a.text.now 0 s h, p.ensures.buf_after ∙ ap (written a.text.now 0) q ∙ written_fits a.text.now 0 s h, r)) in
     let a = c.args in
     let f = c.requires in
-    let e = change-at in
+    let e = change_at in
     let p = c.put_tasks-middle in
     let q = c.put_tasks in
     let m = ap (λ (j : ℕ). task_lines a.report.now j (listed a.news)) (sym (listed_length 0 a.olds f.0)) in

@@ -1,6 +1,6 @@
 use borrow.Author.Rules.{rules}
 use native.Mathlib.Omega.{arith}
-use Prim.Native.Nat.{◌≤◌, ◌<◌, ◌+◌, ◌-◌}
+use Prim.Native.Nat.{◌≤◌, ◌<◌, ◌+◌}
 use mathlib.Core.Path.{◌≡◌, refl, sym, ap, ◌∙◌}
 use mathlib.Core.List.{◌++◌}
 use lib.ListN.{length, get_or, length-set}
@@ -9,7 +9,6 @@ use Rattle.block.specs.Block.{listed}
 use Rattle.block.proofs.Tables.{listed_length}
 use Rattle.window.specs.Order.{kind_of}
 use Rattle.judge.proofs.From.{own_length, new_length}
-use Rattle.rows.specs.Fill.{Going}
 use Rattle.rows.proofs.Laid.{times, going_first, going_more, going_late, going_end}
 use Rattle.rows.proofs.Told.{old_at, new_at, listed_both, told_few, told_row}
 use Rattle.rows.proofs.fill.Goals as goal

@@ -1,19 +1,9 @@
 -- `fill` puts the rows of a pair in front. Invariant: the first j tasks are in time, and their rows stand there.
-use borrow.Author.Rules.{rules}
-use native.Mathlib.Omega.{arith}
-use Prim.Native.Nat.{◌≤◌, ◌<◌, ◌+◌, ◌-◌}
-use mathlib.Core.Path.{◌≡◌, refl, sym, ap, ◌∙◌}
-use mathlib.Core.List.{◌++◌}
-use mathlib.Core.Logic.{⊎_elim}
-use lib.ListN.{length, get_or, length-set}
-use Rattle.block.specs.Checks.{no_task}
+use Prim.Native.Nat.{◌≤◌, ◌-◌}
+use mathlib.Core.Path.{◌≡◌}
+use lib.ListN.{length}
 use Rattle.block.specs.Block.{listed}
-use Rattle.block.proofs.Tables.{listed_length}
-use Rattle.window.specs.Order.{kind_of}
-use Rattle.judge.proofs.From.{own_length, new_length}
 use Rattle.rows.specs.Fill.{Going}
-use Rattle.rows.proofs.Laid.{times, going_first, going_more, going_late, going_end}
-use Rattle.rows.proofs.Told.{old_at, new_at, listed_both, told_few, told_row}
 use Rattle.rows.proofs.fill.Given as goal
 
 abbrev pub invariant-loop-j : goal.invariant-loop-j

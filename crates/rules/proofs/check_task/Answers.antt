@@ -1,10 +1,8 @@
 -- `check_task` gives the first rule that a task breaks.
 use Rattle.block.specs.Checks.{kind_on}
 use Rattle.block.proofs.Rules.{wrong_kind, no_period, no_execution, past_deadline, past_period, old_offset, old_passes, new_passes}
-use borrow.Author.Tests.{not-true, not-false}
 use mathlib.Core.Bool.{true}
 use mathlib.Core.Path.{◌≡◌, sym, ◌∙◌}
-use borrow.Author.Rules.{rules}
 use Rattle.rules.proofs.check_task.Goals as goal
 
 pub returns-then-not-kind_on : goal.returns-then-not-kind_on

@@ -1,5 +1,4 @@
 -- `refused` gives the refusal of a code, a side and a record.
-use borrow.Author.Rules.{rules}
 use Rattle.rules.proofs.refused.Goals as goal
 
 pub returns : goal.returns

@@ -1,4 +1,3 @@
-use borrow.Author.Rules.{rules}
 use Rattle.term.specs.Terms.{flat_demand}
 use Rattle.term.proofs.demand.Goals as goal
 

@@ -1,11 +1,11 @@
 use borrow.Author.Rules.{rules}
 use native.Mathlib.Omega.{arith}
-use Prim.Native.Nat.{◌≤◌, ◌-◌, ◌*◌, ◌+◌}
+use Prim.Native.Nat.{◌*◌, ◌+◌}
 use mathlib.Core.Path.{◌≡◌, ap, ◌∙◌}
 use lib.ListN.{get_or}
 use Rattle.base.specs.Numbers.{jobs_in}
 use Rattle.base.specs.Sums.{sum}
-use Rattle.term.specs.Terms.{share_of, after, new_sum}
+use Rattle.term.specs.Terms.{share_of, after}
 use Rattle.term.proofs.Terms.{sum_more}
 use Rattle.term.proofs.new_sum.Goals as goal
 

@@ -1,12 +1,6 @@
-use borrow.Author.Rules.{rules}
-use native.Mathlib.Omega.{arith}
-use Prim.Native.Nat.{◌≤◌, ◌-◌, ◌*◌, ◌+◌}
-use mathlib.Core.Path.{◌≡◌, ap, ◌∙◌}
-use lib.ListN.{get_or}
-use Rattle.base.specs.Numbers.{jobs_in}
-use Rattle.base.specs.Sums.{sum}
-use Rattle.term.specs.Terms.{share_of, after, new_sum}
-use Rattle.term.proofs.Terms.{sum_more}
+use Prim.Native.Nat.{◌≤◌, ◌-◌, ◌*◌}
+use mathlib.Core.Path.{◌≡◌}
+use Rattle.term.specs.Terms.{new_sum}
 use Rattle.term.proofs.new_sum.Given as goal
 
 abbrev pub invariant-loop-j : goal.invariant-loop-j

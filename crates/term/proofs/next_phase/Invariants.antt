@@ -1,9 +1,6 @@
-use borrow.Author.Rules.{rules}
-use native.Mathlib.Omega.{arith}
 use Prim.Native.Nat.{◌≤◌, ◌-◌, ◌+◌}
 use mathlib.Core.Path.{◌≡◌}
-use native.Mathlib.Numerals.{add-one}
-use Rattle.term.specs.Terms.{share_of, next_phase}
+use Rattle.term.specs.Terms.{next_phase}
 use Rattle.term.proofs.next_phase.Given as goal
 
 abbrev pub invariant-loop-j : goal.invariant-loop-j

@@ -1,9 +1,8 @@
 use borrow.Author.Rules.{rules}
 use native.Mathlib.Omega.{arith}
-use Prim.Native.Nat.{◌≤◌, ◌-◌, ◌*◌}
 use mathlib.Core.Path.{◌≡◌}
 use Rattle.base.specs.Sums.{sum}
-use Rattle.term.specs.Terms.{share_of, before, old_sum}
+use Rattle.term.specs.Terms.{share_of, before}
 use Rattle.term.proofs.Terms.{sum_more}
 use Rattle.term.proofs.old_sum.Goals as goal
 

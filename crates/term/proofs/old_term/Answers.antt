@@ -1,4 +1,3 @@
-use borrow.Author.Rules.{rules}
 use borrow.Author.Tests.{eq-eqb, ne_eqb}
 use Rattle.term.specs.Terms.{before}
 use Rattle.term.proofs.old_term.Goals as goal

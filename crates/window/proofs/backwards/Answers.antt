@@ -5,7 +5,7 @@ use mathlib.Core.Logic.{⊎_elim}
 use Rattle.base.proofs.Search.{le_or_lt}
 use Rattle.term.specs.Terms.{old_sum, flat_demand}
 use Rattle.term.proofs.Terms.{Level, flat_calm, phase_level, phase_some}
-use Rattle.window.specs.Behind.{Fine, Held, Turned, Tells}
+use Rattle.window.specs.Behind.{Turned, Tells}
 use Rattle.window.proofs.Phases.{flat_family}
 use Rattle.window.proofs.Behind.{start, held_less, fine_still, sweep_all}
 use Rattle.window.proofs.backwards.Goals as goal

@@ -1,11 +1,6 @@
-use borrow.Author.Rules.{rules}
-use native.Mathlib.Omega.{arith}
-use Prim.Native.Nat.{◌-◌, ◌+◌, ◌≤◌}
-use mathlib.Core.Path.{sym}
-use Rattle.term.specs.Terms.{old_sum, flat_demand}
-use Rattle.term.proofs.Terms.{Still, flat_calm, phase_still, phase_within}
-use Rattle.window.specs.Phases.{Kept, Stepped}
-use Rattle.window.proofs.Phases.{flat_family, kept_first, kept_next, sweep_early, sweep_late, sweep_end}
+use Prim.Native.Nat.{◌-◌, ◌+◌}
+use Rattle.term.specs.Terms.{flat_demand}
+use Rattle.window.specs.Phases.{Kept}
 use Rattle.window.proofs.forwards.Given as goal
 
 abbrev pub invariant-loop-x : goal.invariant-loop-x

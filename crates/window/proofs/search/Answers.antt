@@ -1,10 +1,6 @@
-use borrow.Author.Rules.{rules}
 use native.Mathlib.Omega.{arith}
-use Prim.Native.Nat.{◌-◌}
 use mathlib.Core.Path.{sym, ap}
-use Rattle.base.specs.Search.{Climbs}
 use Rattle.base.proofs.Search.{climb_next, climb_at, climb_late}
-use Rattle.term.specs.Terms.{flat_demand}
 use Rattle.term.proofs.Terms.{flat_rises}
 use Rattle.window.specs.Phases.{closing_of}
 use Rattle.window.proofs.search.Goals as goal

@@ -2,9 +2,8 @@ use Rattle.block.proofs.Zeros.{same_zero, zero_sum}
 use Rattle.base.proofs.Sums.{list_more}
 use Rattle.base.specs.Sums.{sum_of}
 use lib.Seq.{take_all}
-use lib.ListN.{length, take}
+use lib.ListN.{take}
 use mathlib.Core.Path.{◌≡◌, ◌∙◌}
-use Prim.Native.Nat.{◌≤◌, ◌-◌}
 use borrow.Author.Rules.{rules}
 use native.Mathlib.Omega.{arith}
 use Rattle.words.proofs.all_zero.Goals as goal

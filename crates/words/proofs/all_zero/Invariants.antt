@@ -1,13 +1,8 @@
 -- `all_zero` says whether every byte is zero. Invariant: the largest of the first i bytes is at most their sum, and zero only if that is.
-use Rattle.block.proofs.Zeros.{same_zero, zero_sum}
-use Rattle.base.proofs.Sums.{list_more}
 use Rattle.base.specs.Sums.{sum_of}
-use lib.Seq.{take_all}
 use lib.ListN.{length, take}
-use mathlib.Core.Path.{◌≡◌, ◌∙◌}
+use mathlib.Core.Path.{◌≡◌}
 use Prim.Native.Nat.{◌≤◌, ◌-◌}
-use borrow.Author.Rules.{rules}
-use native.Mathlib.Omega.{arith}
 use Rattle.words.proofs.all_zero.Given as goal
 
 abbrev pub invariant-loop-i : goal.invariant-loop-i

@@ -2,7 +2,6 @@ use Rattle.block.specs.Format.{check_words}
 use Rattle.block.specs.Block.{word_sum}
 use native.Mathlib.Numerals.{add-one}
 use mathlib.Core.Path.{◌≡◌}
-use Prim.Native.Nat.{◌≤◌, ◌%◌, ◌-◌}
 use borrow.Author.Rules.{rules}
 use native.Mathlib.Omega.{arith}
 use Rattle.words.proofs.check_of.Goals as goal

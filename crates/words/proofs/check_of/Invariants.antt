@@ -1,11 +1,8 @@
 -- `check_of` gives the check of a block. Invariant: the sum is that of the first k words, modulo 2^32.
 use Rattle.block.specs.Format.{check_words}
 use Rattle.block.specs.Block.{word_sum}
-use native.Mathlib.Numerals.{add-one}
 use mathlib.Core.Path.{◌≡◌}
 use Prim.Native.Nat.{◌≤◌, ◌%◌, ◌-◌}
-use borrow.Author.Rules.{rules}
-use native.Mathlib.Omega.{arith}
 use Rattle.words.proofs.check_of.Given as goal
 
 abbrev pub invariant-loop-k : goal.invariant-loop-k
