@@ -7,8 +7,10 @@ ghost use Rattle.std.specs.Prelude.{◌≤◌};
 ghost use Rattle.tries.specs.Tries.{most_numbers};
 
 use block::{BLOCK_SIZE, LIST_SIZE, MOST_TASKS};
-use libc::STDIN_FILENO;
 use rows::ROW_SIZE;
+use std::alloc::Global;
+use std::io;
+use std::io::{BufRead, BufReader, Write};
 use tries::{MOST_NUMBERS, number};
 
 // The largest report lent: a number more than any pair's rows need.
@@ -46,12 +48,10 @@ fn put_number(list: &mut [u32], at: usize, x: u32) {
 // The fields that a line names from word 4 on, each with its number; `and` goes on to the next task.
 fn put_words(list: &mut [u32], line: &[u8]) {
     let mut task: usize = 0;
-    let mut k: usize = 4;
-    while k < line.len() {
+    for k in 4..line.len() {
         let name = tries::letter(line, k);
         task = task_by(name, task);
         put_number(list, task + tries::field(name), number(line, k + 1));
-        k += 1;
     }
 }
 
@@ -76,27 +76,34 @@ fn tried(line: &[u8], side: u32, block: [u8; BLOCK_SIZE]) -> [u8; BLOCK_SIZE] {
     bytes
 }
 
-fn tell(old: &[u8], new: &[u8], report: &mut [u32], before: &[u32]) {
+fn tell<W: Write>(
+    to: &mut W,
+    old: &[u8],
+    new: &[u8],
+    report: &mut [u32],
+    before: &[u32],
+) -> io::Result<()> {
     let a = pair::analyse(old, new, report);
-    says::say_outcome(a, tries::same_from(report, before, 0));
+    says::say_outcome(to, a, tries::same_from(report, before, 0))?;
     if a.code == 0 {
-        says::say_numbers(b"", report);
+        says::say_numbers(to, b"", report)?;
     }
+    Ok(())
 }
 
-fn try_pair(line: &[u8], old: &[u8], new: &[u8]) {
+fn try_pair<W: Write>(to: &mut W, line: &[u8], old: &[u8], new: &[u8]) -> io::Result<()> {
     let before = untouched();
     let mut report = before;
     let room = tries::room(line, 2, ROW_SIZE, MOST_ROOM);
-    tell(old, new, &mut report[0..room], &before);
+    tell(to, old, new, &mut report[0..room], &before)
 }
 
-fn try_blocks(line: &[u8], old: [u8; BLOCK_SIZE], new: [u8; BLOCK_SIZE]) {
-    let a = tried(line, 0, old);
-    let b = tried(line, 1, new);
+fn try_blocks<W: Write>(to: &mut W, line: &[u8], p: &Pair) -> io::Result<()> {
+    let a = tried(line, 0, p.old);
+    let b = tried(line, 1, p.new);
     let n = tries::length_of(line, 5, BLOCK_SIZE);
     let k = tries::length_of(line, 7, BLOCK_SIZE);
-    try_pair(line, &a[0..n], &b[0..k]);
+    try_pair(to, line, &a[0..n], &b[0..k])
 }
 
 // ---- the lines
@@ -115,45 +122,31 @@ fn no_blocks() -> Pair {
 }
 
 // What a line that starts with one of three letters does.
-fn heed(line: &[u8], p: Pair) -> Pair {
-    let old = p.old;
-    let new = p.new;
-    if line.len() > 0 {
-        match line[0] {
-            b'o' => {
-                let said = block_of(line, 0, 1);
-                return Pair { old: said, new };
-            }
-            b'n' => {
-                let said = block_of(line, 1, 2);
-                return Pair { old, new: said };
-            }
-            b't' => try_blocks(line, old, new),
-            _ => {}
-        }
+fn heed<W: Write>(to: &mut W, line: &[u8], p: &mut Pair) -> io::Result<()> {
+    match line {
+        [b'o', ..] => p.old = block_of(line, 0, 1),
+        [b'n', ..] => p.new = block_of(line, 1, 2),
+        [b't', ..] => try_blocks(to, line, p)?,
+        _ => {}
     }
-    Pair { old, new }
+    Ok(())
 }
 
-fn try_line(line: &[u8], p: Pair) -> Pair {
-    says::say(line);
-    let next = heed(line, p);
-    says::say(b"\n");
-    next
+fn try_line<W: Write>(to: &mut W, line: &[u8], p: &mut Pair) -> io::Result<()> {
+    says::say(to, line)?;
+    heed(to, line, p)?;
+    says::say(to, b"\n")
 }
 
-fn try_lines(text: &[u8]) {
+fn try_lines<R: BufRead + Drop, W: Write>(alloc: Global, from: R, to: &mut W) -> io::Result<()> {
     let mut pair = no_blocks();
-    let mut from: usize = 0;
-    while from < text.len() {
-        let end = bytes::scan::find(text, from, text.len(), b'\n');
-        pair = try_line(&text[from..end], pair);
-        from = end + 1;
+    for line in from.split(alloc, b'\n') {
+        try_line(to, &line?, &mut pair)?;
     }
+    Ok(())
 }
 
-fn main() {
-    let mut text = io::large_buffer();
-    let n = io::read_full(STDIN_FILENO, &mut text);
-    try_lines(&text[0..n]);
+fn main(rt: HostRuntime) -> io::Result<()> {
+    let text = BufReader::new(rt.alloc(), rt.stdin())?;
+    try_lines(rt.alloc(), text, &mut rt.stdout())
 }

@@ -4,7 +4,9 @@
 
 #![tactic(auto)]
 use block::{Answer, BLOCK_SIZE, LIST_SIZE};
-use libc::STDIN_FILENO;
+use std::alloc::Global;
+use std::io;
+use std::io::{BufRead, BufReader, Write};
 use tries::{MODE, MOST_BYTES, MOST_NUMBERS, number};
 
 // ---- the reader
@@ -31,80 +33,90 @@ fn writes_back(a: Answer, list: &[u32], end: usize, bytes: &[u8]) -> bool {
     let n = base::least(end, list.len());
     let mut again = tries::no_block();
     writer::write(a.side, (a.detail % 65536) as u16, &list[0..n], &mut again);
-    check::same(&again, bytes)
+    again.as_slice() == bytes
 }
 
 // The first task, and the last where it is another.
-fn tell_accepted(a: Answer, list: &[u32], before: &[u32], bytes: &[u8]) {
+fn tell_accepted<W: Write>(
+    to: &mut W,
+    a: Answer,
+    list: &[u32],
+    before: &[u32],
+    bytes: &[u8],
+) -> io::Result<()> {
     let count = a.record as usize;
     let end = LIST_SIZE * count;
-    says::say(b", rest");
-    says::say_kept(tries::same_from(list, before, end));
-    says::say_back(writes_back(a, list, end, bytes));
+    says::say(to, b", rest")?;
+    says::say_kept(to, tries::same_from(list, before, end))?;
+    says::say_back(to, writes_back(a, list, end, bytes))?;
     if 0 < count {
-        says::say_entry(list, 0);
+        says::say_entry(to, list, 0)?;
     }
     if 1 < count {
-        says::say_entry(list, count - 1);
+        says::say_entry(to, list, count - 1)?;
     }
+    Ok(())
 }
 
-fn tell_read(bytes: &[u8], wanted: u32, list: &mut [u32], before: &[u32]) {
+fn tell_read<W: Write>(
+    to: &mut W,
+    bytes: &[u8],
+    wanted: u32,
+    list: &mut [u32],
+    before: &[u32],
+) -> io::Result<()> {
     let a = reader::read(bytes, wanted, list);
-    says::say_outcome(a, tries::same_from(list, before, 0));
+    says::say_outcome(to, a, tries::same_from(list, before, 0))?;
     if a.code == 0 {
-        tell_accepted(a, list, before, bytes);
+        tell_accepted(to, a, list, before, bytes)?;
     }
+    Ok(())
 }
 
-fn read(line: &[u8]) {
+fn read<W: Write>(to: &mut W, line: &[u8]) -> io::Result<()> {
     let bytes = bytes_of(line);
     let mut list = tries::no_numbers();
     let before = tries::no_numbers();
     let long = tries::length_of(line, 7, MOST_BYTES);
     let room = tries::room(line, 8, LIST_SIZE, MOST_NUMBERS);
     tell_read(
+        to,
         &bytes[0..long],
         number(line, 5),
         &mut list[0..room],
         &before,
-    );
+    )
 }
 
 // ---- the loader
 
-fn load(line: &[u8]) {
+fn load<W: Write>(to: &mut W, line: &[u8]) -> io::Result<()> {
     let bytes = bytes_of(line);
     let long = tries::length_of(line, 7, MOST_BYTES);
-    says::say_loaded(reader::load(&bytes[0..long], number(line, 5)));
+    says::say_loaded(to, reader::load(&bytes[0..long], number(line, 5)))
 }
 
 // ---- the lines
 
 // A line that starts with neither letter is only printed.
-fn try_line(line: &[u8]) {
-    says::say(line);
-    if line.len() > 0 {
-        match line[0] {
-            b'r' => read(line),
-            b'l' => load(line),
-            _ => {}
-        }
+fn try_line<W: Write>(to: &mut W, line: &[u8]) -> io::Result<()> {
+    says::say(to, line)?;
+    match line {
+        [b'r', ..] => read(to, line)?,
+        [b'l', ..] => load(to, line)?,
+        _ => {}
     }
-    says::say(b"\n");
+    says::say(to, b"\n")
 }
 
-fn try_lines(text: &[u8]) {
-    let mut from: usize = 0;
-    while from < text.len() {
-        let end = bytes::scan::find(text, from, text.len(), b'\n');
-        try_line(&text[from..end]);
-        from = end + 1;
+fn try_lines<R: BufRead + Drop, W: Write>(alloc: Global, from: R, to: &mut W) -> io::Result<()> {
+    for line in from.split(alloc, b'\n') {
+        try_line(to, &line?)?;
     }
+    Ok(())
 }
 
-fn main() {
-    let mut text = io::large_buffer();
-    let n = io::read_full(STDIN_FILENO, &mut text);
-    try_lines(&text[0..n]);
+fn main(rt: HostRuntime) -> io::Result<()> {
+    let text = BufReader::new(rt.alloc(), rt.stdin())?;
+    try_lines(rt.alloc(), text, &mut rt.stdout())
 }

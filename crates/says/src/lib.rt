@@ -1,107 +1,106 @@
-// What the programs that run edge cases print. No contract can say what that is: their files stdout do.
+// What the programs that run edge cases print, to any writer. No contract says what that is: their files stdout do.
 
 #![tactic(auto)]
-ghost use Rattle.std.specs.Prelude.{◌≡◌};
+ghost use Rattle.std.specs.Prelude.{◌≡◌, IfOk};
 
 use block::{Answer, BLOCK_SIZE, CHECK_PLACE, LIST_SIZE, Loaded, MOST_TASKS, Table, Task};
-use libc::STDOUT_FILENO;
+use std::io;
+use std::io::Write;
 
-pub fn say(text: &[u8])
-    ensures { result ≡ tt }
+pub fn say<W: Write>(to: &mut W, text: &[u8]) -> io::Result<()>
+    ensures { IfOk result (λ r. r ≡ tt) }
 {
-    io::write_all(STDOUT_FILENO, text);
+    to.write_all(text)
 }
 
 // A text, then each number with a space before it.
-pub fn say_numbers(text: &[u8], numbers: &[u32])
-    ensures { result ≡ tt }
+pub fn say_numbers<W: Write>(to: &mut W, text: &[u8], numbers: &[u32]) -> io::Result<()>
+    ensures { IfOk result (λ r. r ≡ tt) }
 {
-    say(text);
-    let mut i: usize = 0;
-    while i < numbers.len() {
-        say(b" ");
-        io::print_decimal(STDOUT_FILENO, numbers[i] as u64);
-        i += 1;
+    say(to, text)?;
+    for number in numbers {
+        write!(to, " {number}")?;
     }
+    Ok(())
 }
 
-fn say_answer(a: Answer) {
+fn say_answer<W: Write>(to: &mut W, a: Answer) -> io::Result<()> {
     let numbers = [a.code, a.side, a.record, a.detail];
-    say_numbers(b":", &numbers);
+    say_numbers(to, b":", &numbers)
 }
 
-pub fn say_kept(kept: bool)
-    ensures { result ≡ tt }
+pub fn say_kept<W: Write>(to: &mut W, kept: bool) -> io::Result<()>
+    ensures { IfOk result (λ r. r ≡ tt) }
 {
     if kept {
-        say(b" kept");
-        return;
+        return say(to, b" kept");
     }
-    say(b" changed");
+    say(to, b" changed")
 }
 
 // An answer, and whether the lent memory is as it was.
-pub fn say_outcome(a: Answer, kept: bool)
-    ensures { result ≡ tt }
+pub fn say_outcome<W: Write>(to: &mut W, a: Answer, kept: bool) -> io::Result<()>
+    ensures { IfOk result (λ r. r ≡ tt) }
 {
-    say_answer(a);
-    say_kept(kept);
+    say_answer(to, a)?;
+    say_kept(to, kept)
 }
 
-pub fn say_back(same: bool)
-    ensures { result ≡ tt }
+pub fn say_back<W: Write>(to: &mut W, same: bool) -> io::Result<()>
+    ensures { IfOk result (λ r. r ≡ tt) }
 {
     if same {
-        say(b", back same");
-        return;
+        return say(to, b", back same");
     }
-    say(b", back other");
+    say(to, b", back other")
 }
 
 // The check of a whole block.
-pub fn say_check(bytes: &[u8])
-    ensures { result ≡ tt }
+pub fn say_check<W: Write>(to: &mut W, bytes: &[u8]) -> io::Result<()>
+    ensures { IfOk result (λ r. r ≡ tt) }
 {
     if bytes.len() == BLOCK_SIZE {
-        say(b", check ");
-        io::print_decimal(STDOUT_FILENO, words::word_at(bytes, CHECK_PLACE));
+        let check = words::word_at(bytes, CHECK_PLACE);
+        write!(to, ", check {check}")?;
     }
+    Ok(())
 }
 
-fn say_task(x: Task) {
+fn say_task<W: Write>(to: &mut W, x: Task) -> io::Result<()> {
     let mut entry = [0u32; LIST_SIZE];
     numbers::put_numbers(&mut entry, x);
-    say_numbers(b",", &entry);
+    say_numbers(to, b",", &entry)
 }
 
 // The count, and the first, the second and the last of a table's places.
-fn say_table(table: Table) {
+fn say_table<W: Write>(to: &mut W, table: Table) -> io::Result<()> {
     let tasks = table.tasks;
-    say(b", tasks ");
-    io::print_decimal(STDOUT_FILENO, table.count as u64);
-    say_task(tasks[0]);
-    say_task(tasks[1]);
-    say_task(tasks[MOST_TASKS - 1]);
+    let count = table.count;
+    write!(to, ", tasks {count}")?;
+    say_task(to, tasks[0])?;
+    say_task(to, tasks[1])?;
+    say_task(to, tasks[MOST_TASKS - 1])
 }
 
 // A loading: the answer, the mode number, the table.
-pub fn say_loaded(loaded: Loaded)
-    ensures { result ≡ tt }
+pub fn say_loaded<W: Write>(to: &mut W, loaded: Loaded) -> io::Result<()>
+    ensures { IfOk result (λ r. r ≡ tt) }
 {
-    say_answer(loaded.answer);
-    say(b", mode ");
-    io::print_decimal(STDOUT_FILENO, loaded.mode as u64);
-    say_table(loaded.table);
+    say_answer(to, loaded.answer)?;
+    let mode = loaded.mode;
+    write!(to, ", mode {mode}")?;
+    say_table(to, loaded.table)
 }
 
 // Task k of a list, where it has one.
-pub fn say_entry(list: &[u32], k: usize)
-    ensures { result ≡ tt }
+pub fn say_entry<W: Write>(to: &mut W, list: &[u32], k: usize) -> io::Result<()>
+    ensures { IfOk result (λ r. r ≡ tt) }
 {
     if k < MOST_TASKS {
         let at = LIST_SIZE * k;
         if at + LIST_SIZE <= list.len() {
-            say_numbers(b",", &list[at..at + LIST_SIZE]);
+            say_numbers(to, b",", &list[at..at + LIST_SIZE])?;
         }
     }
+    Ok(())
 }

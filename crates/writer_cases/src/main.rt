@@ -6,7 +6,9 @@
 ghost use Rattle.std.specs.Prelude.{◌<◌};
 
 use block::LIST_SIZE;
-use libc::STDIN_FILENO;
+use std::alloc::Global;
+use std::io;
+use std::io::{BufRead, BufReader, Write};
 use tries::{MODE, MOST_BYTES, MOST_NUMBERS, number};
 
 // Puts what word k + 4 of a line says where its word k names a field and its word k + 2 a task.
@@ -35,52 +37,55 @@ fn reads_back(side: u32, bytes: &[u8], list: &[u32]) -> bool {
     tries::same_from(&again, list, 0)
 }
 
-fn tell_write(side: u32, list: &[u32], bytes: &mut [u8], before: &[u8]) {
+fn tell_write<W: Write>(
+    to: &mut W,
+    side: u32,
+    list: &[u32],
+    bytes: &mut [u8],
+    before: &[u8],
+) -> io::Result<()> {
     let a = writer::write(side, MODE, list, bytes);
-    says::say_outcome(a, check::same(bytes, before));
+    says::say_outcome(to, a, &*bytes == before)?;
     if a.code == 0 {
-        says::say_check(bytes);
-        says::say_back(reads_back(side, bytes, list));
+        says::say_check(to, bytes)?;
+        says::say_back(to, reads_back(side, bytes, list))?;
     }
+    Ok(())
 }
 
-fn write(line: &[u8]) {
+fn write<W: Write>(to: &mut W, line: &[u8]) -> io::Result<()> {
     let list = list_of(line);
     let mut bytes = tries::no_bytes();
     let before = tries::no_bytes();
     let size = tries::room(line, 0, LIST_SIZE, MOST_NUMBERS);
     let room = tries::length_of(line, 7, MOST_BYTES);
     tell_write(
+        to,
         number(line, 5),
         &list[0..size],
         &mut bytes[0..room],
         &before[0..room],
-    );
+    )
 }
 
 // A line that does not start as a writing is only printed.
-fn try_line(line: &[u8]) {
-    says::say(line);
-    if line.len() > 0 {
-        match line[0] {
-            b'w' | b's' | b'e' => write(line),
-            _ => {}
-        }
+fn try_line<W: Write>(to: &mut W, line: &[u8]) -> io::Result<()> {
+    says::say(to, line)?;
+    match line {
+        [b'w' | b's' | b'e', ..] => write(to, line)?,
+        _ => {}
     }
-    says::say(b"\n");
+    says::say(to, b"\n")
 }
 
-fn try_lines(text: &[u8]) {
-    let mut from: usize = 0;
-    while from < text.len() {
-        let end = bytes::scan::find(text, from, text.len(), b'\n');
-        try_line(&text[from..end]);
-        from = end + 1;
+fn try_lines<R: BufRead + Drop, W: Write>(alloc: Global, from: R, to: &mut W) -> io::Result<()> {
+    for line in from.split(alloc, b'\n') {
+        try_line(to, &line?)?;
     }
+    Ok(())
 }
 
-fn main() {
-    let mut text = io::large_buffer();
-    let n = io::read_full(STDIN_FILENO, &mut text);
-    try_lines(&text[0..n]);
+fn main(rt: HostRuntime) -> io::Result<()> {
+    let text = BufReader::new(rt.alloc(), rt.stdin())?;
+    try_lines(rt.alloc(), text, &mut rt.stdout())
 }
