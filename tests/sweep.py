@@ -259,7 +259,7 @@ def build(at):
 def proved(at):
     """What the prover says of the one crate: proved; refused by a case; unfit, where a definition is none; endless, where a case
     takes more steps than the prover allows."""
-    said = subprocess.run(["rt", "check"], cwd=f"{at}/crates/one", capture_output=True, text=True)
+    said = subprocess.run(["rt", "check", "--jobs", "1"], cwd=f"{at}/crates/one", capture_output=True, text=True)
     said = said.stdout + said.stderr
     if "\nlogic=proved" in said:
         return "proved", said
