@@ -1,43 +1,42 @@
 # make run    prove, build and show the main job: the pump loader's pair, judged and explained
 # make test   the whole gate; its last line is that of rt ci
-# make lib    target/staticlib/libvisnumar.a, for C and Rust to link with include/visnumar.h
+# make build  the programs that the tests run, each in crates/NAME/out/NAME
+# make lib    crates/visnumar/out/libvisnumar.a, for C and Rust to link with include/visnumar.h
 # make bench  the proved library beside plain C, as ratios (docs/BENCH.md)
 # make soak   random inputs against the second program for SECONDS (60)
 # make stored every stored block and expected file written anew, to read in git diff before it is committed
-# make shares every crate proved from nothing, and what each takes; refused where one takes more than 4 times what base takes
-# make sweep  every small change of a definition that a reader believes, which a computed case has to refuse (half an hour or so)
+# make shares every crate proved from nothing, one after the other, and what each takes; refused where one takes more than 4 times what base takes
+# make sweep  every small change of a definition that a reader believes, which a computed case has to refuse (an hour or so)
 .POSIX:
-.PHONY: run test setup text programs library lib bench soak stored shares sweep clean
+.PHONY: run test setup text build programs lib library bench soak stored shares sweep clean
 SECONDS = 60
-# rt, with its passing files in memory where there is room
-SCRATCH = TMPDIR=$$(tools/scratch)
-RT = $(SCRATCH) rt
 
 run: setup
-	@$(RT) check report
+	@tools/build report
 	@echo
 	bin/visnumar judge examples/pump-old.blk examples/pump-new.blk
 	@echo
 	bin/visnumar explain examples/pump-old.blk examples/pump-new.blk
 
-# What rt ci proved and built is used by the rest, so nothing is proved twice; rt ci's last line comes last.
-test: setup text
-	@$(SCRATCH) tests/shares rt ci -- $(MAKE) --no-print-directory programs library
+test:
+	@.ci/run
 
 setup:
 	@tools/setup
 
 # What needs no build.
 text:
-	rt fmt --check
 	tests/contracts .
+	tests/shares selftest
 	tests/scripts.sh
 	tests/stored.sh
 	tests/sweep.py steps
 
-# What users run, and the comparison with the second program.
+build: setup
+	tools/build report batch
+
+# What users run, and the comparison with the second program. rt ci has built the programs; make build does it too.
 programs: setup
-	$(RT) check report batch
 	tests/picture.sh
 	tests/command.sh
 	tests/examples.sh
@@ -46,31 +45,31 @@ programs: setup
 	tests/second/compare.sh "bin/run-built batch" batch 20000
 	tests/runs/play.sh "bin/run-built batch"
 
-library: lib programs
+library: lib
 	tests/c-example.sh
 	tests/rust-page.sh
 	tests/second/library.sh
 
 lib: setup
-	$(RT) staticlib visnumar
+	tools/build visnumar
 
 bench: lib
 	bench/run.sh
 
 soak: setup
-	$(RT) check batch
+	tools/build batch
 	tests/soak.sh $(SECONDS)
 
 # A program that prints something else than its file stdout is what this is for; the rest of the check must hold.
 stored: setup
-	-$(RT) check report batch analysis_cases reader_cases writer_cases
+	tools/build report batch analysis_cases reader_cases writer_cases
 	tests/stored.sh rewrite
 
 shares: setup
-	$(RT) prove | tests/shares
+	rt all verdict --jobs 1 | tests/shares
 
 sweep: setup
 	tests/sweep.py
 
 clean:
-	rm -rf target
+	rm -rf crates/*/out

@@ -2,7 +2,7 @@
 # Times the proved library beside the plain C version, in several link layouts, and prints the best of each side over all of
 # them, the ratio, and how many demands are worked out. docs/BENCH.md says what the columns mean.
 #
-# Needed: rt, and the library (rt staticlib visnumar).
+# Needed: rt, and the library (make lib).
 set -eu
 here=$(CDPATH='' cd -- "$(dirname -- "$0")" && pwd -P)
 cd "$(dirname -- "$here")"

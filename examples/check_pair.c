@@ -1,7 +1,7 @@
 /* check_pair OLD NEW: judges the change from the block in the file OLD to the block in the file NEW, by the library alone.
  *
  * Prints the same lines as `visnumar judge OLD NEW`. Exit status: 0 accepted, 1 refused, 2 unusable.
- * Build, on x86-64: cc -Iinclude -o check_pair examples/check_pair.c target/staticlib/libvisnumar.a
+ * Build, on x86-64: cc -Iinclude -o check_pair examples/check_pair.c crates/visnumar/out/libvisnumar.a
  */
 
 #include "visnumar.h"

@@ -1,7 +1,8 @@
 /* write_block SIDE MODE [KIND PRIORITY NUMBER T D C Y]..: writes a block to standard output, by the library's writer.
  *
  * SIDE is 0 (old) or 1 (new); seven numbers make a task. A refusal is a line on standard error. Exit status: 0 written,
- * 1 refused, 2 unusable. Build, on x86-64: cc -Iinclude -o write_block examples/write_block.c target/staticlib/libvisnumar.a
+ * 1 refused, 2 unusable. Build, on x86-64:
+ *   cc -Iinclude -o write_block examples/write_block.c crates/visnumar/out/libvisnumar.a
  */
 
 #include "visnumar.h"

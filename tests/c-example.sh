@@ -3,12 +3,12 @@
 # prints for them; write_block on the tasks of the examples' blocks, against these blocks. Then holds header
 # and examples against the C and C++ compilers of this system, where there are any; where not, a line says so.
 #
-# Needed: rt, the built program report, and the library (rt staticlib visnumar).
+# Needed: rt, the built program report, and the library (make lib).
 set -eu
 here=$(CDPATH='' cd -- "$(dirname -- "$0")" && pwd -P)
 root=$(dirname -- "$here")
 cd "$root"
-archive=target/staticlib/libvisnumar.a
+archive=crates/visnumar/out/libvisnumar.a
 work=$(mktemp -d)
 trap 'rm -rf "$work"' EXIT
 trap 'exit 1' HUP INT TERM

@@ -106,7 +106,7 @@ transcript() {
     show "cd links && ./judge-two judge -- ../-pair"
 
     # A tree of its own, where shell scripts stand in for the program: none, or one that misbehaves.
-    mkdir -p "$work/alone/bin" "$work/alone/target" "$work/alone/x86" "$work/alone/arm"
+    mkdir -p "$work/alone/bin" "$work/alone/crates/report/out" "$work/alone/x86" "$work/alone/arm"
     cp "$root/bin/visnumar" "$root/bin/run-built" "$work/alone/bin"
     cd "$work/alone"
     cp "../else where/a pair" pair
@@ -118,20 +118,19 @@ transcript() {
     show "bin/visnumar explain pair"
     show "bin/run-built"
     show "bin/run-built ./nothing"
-    mkdir target/bin
-    script target/bin/report "echo out of order >&2; exit 3"
+    script crates/report/out/report "echo out of order >&2; exit 3"
     show "bin/visnumar judge pair"
-    script target/bin/report "cat >/dev/null; echo something else"
+    script crates/report/out/report "cat >/dev/null; echo something else"
     show "bin/visnumar judge pair"
-    script target/bin/report "cat >/dev/null; echo refused 99 0 0 0"
+    script crates/report/out/report "cat >/dev/null; echo refused 99 0 0 0"
     show "bin/visnumar explain pair"
-    script target/bin/report "cat >/dev/null; echo refused 8 2 0 0"
+    script crates/report/out/report "cat >/dev/null; echo refused 8 2 0 0"
     show "bin/visnumar explain pair"
-    script target/bin/report "cat >/dev/null; echo change 1 2; echo x 1 2 3 4"
+    script crates/report/out/report "cat >/dev/null; echo change 1 2; echo x 1 2 3 4"
     show "bin/visnumar explain pair"
 
     # The program gets the very bytes: all of them up to the one that is too many.
-    script target/bin/report "cat >got; echo change 1 2"
+    script crates/report/out/report "cat >got; echo change 1 2"
     for input in "$here"/command/*.blk; do
         for call in "judge $input" "judge <$input"; do
             sh -c "bin/visnumar $call" >said
@@ -143,17 +142,21 @@ transcript() {
     bin/visnumar judge one other >said
     cmp pair got || echo "other bytes for two files"
 
-    # Another processor: without a kit, with one that has no emulator, with one.
+    # Another processor: without a kit, with one that lacks the loader; then where neither the system nor an emulator runs
+    # the loader, where an emulator does, and where the system does.
     show "PATH=$work/alone/arm bin/run-built report"
-    mkdir -p kit/docs kit/on/aarch64/toolchain/bin kit/on/aarch64/toolchain/lib
-    script arm/rt "echo $work/alone/kit/docs/START-HERE.md"
+    mkdir -p kit/toolchain/lib
+    script arm/rt "echo $work/alone/kit/START-HERE.md"
     show "PATH=$work/alone/arm bin/run-built report"
-    script kit/on/aarch64/toolchain/bin/qemu-x86_64 'echo "emulator: $*"'
-    : >kit/on/aarch64/toolchain/lib/ld-linux-x86-64.so.2
+    script kit/toolchain/lib/ld-linux-x86-64.so.2 "exit 1"
+    show "PATH=$work/alone/arm bin/run-built report"
+    script arm/qemu-x86_64 'echo "emulator: $*"'
+    show "PATH=$work/alone/arm bin/run-built report one two"
+    script kit/toolchain/lib/ld-linux-x86-64.so.2 'echo "loader: $*"'
     show "PATH=$work/alone/arm bin/run-built report one two"
 
     # A file that this user may not read. Root may read everything, so root becomes nobody for it.
-    script target/bin/report "cat >/dev/null; echo change 1 2"
+    script crates/report/out/report "cat >/dev/null; echo change 1 2"
     chmod -R a+rX .
     chmod 0 pair
     if test "$(id -u)" = 0; then become="setpriv --reuid=65534 --regid=65534 --clear-groups "; else become=; fi

@@ -3,12 +3,13 @@
 # the processor is no x86-64 the library can't be linked to a program of this system: they are type-checked, and a line
 # says that no more was done.
 #
-# Needed: rustc, the built program report, and the library (rt staticlib visnumar).
+# Needed: rustc, the built program report, and the library (make lib).
 set -eu
 cd "$(dirname -- "$0")/.."
 root=$(pwd -P)
-test -f target/staticlib/libvisnumar.a || {
-    echo "rust-page: target/staticlib/libvisnumar.a is missing: run 'rt staticlib visnumar' in $root" >&2
+library=crates/visnumar/out
+test -f $library/libvisnumar.a || {
+    echo "rust-page: $library/libvisnumar.a is missing: run 'make lib' in $root" >&2
     exit 1
 }
 work=$(mktemp -d)
@@ -20,10 +21,10 @@ for file in visnumar.rs main.rs; do
     test -s "$work/$file" || { echo "rust-page: docs/RUST.md has no $file"; exit 1; }
 done
 if test "$(uname -m)" != x86_64; then
-    rustc --edition 2021 -D warnings --emit=metadata -L native=target/staticlib -o "$work/main.rmeta" "$work/main.rs"
+    rustc --edition 2021 -D warnings --emit=metadata -L native=$library -o "$work/main.rmeta" "$work/main.rs"
     echo "rust-page: type-checked, not linked: the library is for x86-64"
     exit
 fi
-rustc -O --edition 2021 -D warnings -L native=target/staticlib -o "$work/judge" "$work/main.rs"
+rustc -O --edition 2021 -D warnings -L native=$library -o "$work/judge" "$work/main.rs"
 
 tests/same-verdicts.sh "rust-page" "$work/judge"

@@ -13,8 +13,8 @@ can be seen stand in tests/sweep.same with the reason; any other step that is st
 status 1. A change that is no definition, as where two arguments have different types, counts apart.
 
 What is proved is one crate of the definitions and the tables of cases (proofs/Cases.antt of each crate) alone, with the types
-that they speak of and no function, so that a step takes a second. It runs on all processors, or on RT_JOBS of them. A sweep
-takes some minutes, so it is not part of the gate.
+that they speak of and no function. A step takes some seconds all the same, most of them to load the kit's library. It runs on
+all processors, or on RT_JOBS of them. A sweep takes an hour or so on four, so it is not part of the gate.
 
 Needed: rt.
 """
@@ -33,17 +33,18 @@ SWEPT = {
     "render": ALL,
 }
 # Definitions in them that only the code is about.
-INTERNAL = {"base/Numbers recipOf"}
+INTERNAL = {"base/Numbers recip_of"}
 
 TOP = os.path.dirname(os.path.dirname(os.path.abspath(__file__)))
 SWAPS = [("ltb", "leb"), ("leb", "ltb"), ("min", "max"), ("max", "min"), ("true", "false"), ("false", "true")]
 SIGNS = [("&&", "||"), ("||", "&&"), ("+", "-"), ("-", "+"), ("*", "+"), ("/", "%"), ("%", "/")]
 ORDERED = {"-", "/", "%", "++", "∷"}
 EITHER_WAY = {"min", "max", "eqb"}
-HOMES = {"lib.Dec": ["ltb", "leb"], "mathlib.Core.Bool": ["&&", "||", "true", "false"],
-         "Prim.Native.Nat": ["min", "max", "+", "-", "/", "%"]}
+PRELUDE = "Rattle.std.specs.Prelude"
 WORD = r"[^\s(){};,]+"
-USE = r"Rattle·([a-z_]+)(?:·specs)?\.specs\.([A-Z]\w*)"
+READ = re.compile(r"([^.]+)((?:\.[^.]+)*)")
+LIMITS = r"antt ran out of (stack|the (steps|memory))|(outgrew the memory|stopped at the step) limit"
+USE = r"Rattle\.(?!std\b)([a-z_]+)\.specs\.([A-Z]\w*)"
 
 
 def equations(text):
@@ -108,7 +109,9 @@ def applied(text, start, end):
                 close(word)
             else:
                 stop = b
-                if word[0] != ".":
+                if word[0] == "." and atoms:
+                    atoms[-1] = (atoms[-1][0], b)
+                else:
                     atoms.append((a, b))
         close(None)
 
@@ -139,11 +142,12 @@ def changes(text, beside):
             for old, new in SWAPS + SIGNS:
                 if m.group() == old:
                     yield name, put(m, new), new
-            if m.group()[0] == ".":
-                for other in beside.get(m.group()[1:].strip("«»"), []):
-                    yield name, put(m, "." + other), ""
-            for other in taken.get(m.group(), []):
-                yield name, put(m, other), ""
+            for field in re.finditer(r"\.(«?\w+»?)", m.group()):
+                for other in beside.get(field.group(1).strip("«»"), []):
+                    yield name, put(m, m.group()[:field.start(1)] + other + m.group()[field.end(1):]), ""
+            read = READ.fullmatch(m.group())
+            for other in taken.get(read.group(1), []) if read else []:
+                yield name, put(m, other + read.group(2)), ""
         for m in re.finditer(r"not (?=\()|\(suc (\w+)\)", body):
             yield name, put(m, m.group(1) or ""), ""
         for m in re.finditer(r"record \{(.*?)\}", body, re.S):
@@ -202,15 +206,11 @@ def steps():
 
 def with_name(text, word):
     """The same text, with the word among the names that it uses."""
-    for home, words in HOMES.items():
-        if word in words:
-            name = word if word.isalpha() else f"_{word}_"
-            used = re.search(rf"^use {re.escape(home)}\.\{{([^}}]*)\}}", text, re.M)
-            if not used:
-                return f"use {home}.{{{name}}}\n" + text
-            if name not in used.group(1).split(", "):
-                return text[:used.end() - 1] + ", " + name + text[used.end() - 1:]
-    return text
+    name = word if word.isalpha() else f"◌{word}◌"
+    if not word or name in known(text):
+        return text
+    used = re.search(rf"^use {re.escape(PRELUDE)}\.\{{([^}}]*)\}}", text, re.M)
+    return text[:used.end() - 1] + ", " + name + text[used.end() - 1:] if used else f"use {PRELUDE}.{{{name}}}\n" + text
 
 
 # ---- the crate of definitions and cases alone
@@ -221,7 +221,7 @@ def declared(crates):
     for crate in crates:
         source = f"{TOP}/crates/{crate}/src/lib.rt"
         text = open(source).read() if os.path.exists(source) else ""
-        for m in re.finditer(r"^(?:#\[repr\(C\)\]\n)?(?:pub )?(?:(?:struct|enum) (\w+) \{\n.*?^\}|const (\w+)[^;]*;)\n", text, re.M | re.S):
+        for m in re.finditer(r"^(?:#\[.*\]\n)*(?:pub )?(?:(?:struct|enum) (\w+) \{\n.*?^\}|const (\w+)[^;]*;)\n", text, re.M | re.S):
             found.setdefault(m.group(1) or m.group(2), re.sub(r"\b\w+::", "", m.group()))
     return "\n".join(found.values())
 
@@ -232,8 +232,8 @@ def module(crate, file):
 
 def moved(text):
     """A file's text as it stands in the one crate."""
-    text = re.sub(r"Rattle·\w+(·specs)?\.specs\.declared\.", "Rattle·one·specs.specs.declared.", text)
-    return re.sub(USE, lambda m: "Rattle·one·specs.specs." + module(m.group(1), m.group(2)), text)
+    text = re.sub(r"Rattle\.\w+\.specs\.declared\.", "Rattle.one.specs.declared.", text)
+    return re.sub(USE, lambda m: "Rattle.one.specs." + module(m.group(1), m.group(2)), text)
 
 
 def build(at):
@@ -259,15 +259,15 @@ def build(at):
 def proved(at):
     """What the prover says of the one crate: proved; refused by a case; unfit, where a definition is none; endless, where a case
     takes more steps than the prover allows."""
-    said = subprocess.run(["rt", "dev", "one"], cwd=at, capture_output=True, text=True)
+    said = subprocess.run(["rt", "check", "--jobs", "1"], cwd=f"{at}/crates/one", capture_output=True, text=True)
     said = said.stdout + said.stderr
     if "\nlogic=proved" in said:
         return "proved", said
-    if "step-limit" in said:
+    if re.search(LIMITS, said):
         return "endless", said
     if "logic=not-proved" not in said:
         sys.exit("sweep: the prover gave no answer:\n" + said[-2000:])
-    return "unfit" if re.search(r"/specs/[^ ]*: error", said) else "refused", said
+    return "unfit" if re.search(r"specs/[^ ]*: error", said) else "refused", said
 
 
 def attempt(at, crate, file, changed):

@@ -4,7 +4,7 @@
 #
 #   library.sh [COUNT [SEED]]       COUNT inputs of each kind
 #
-# Needed: rustc, rt, and the library (rt staticlib visnumar).
+# Needed: rustc, rt, and the library (make lib).
 set -eu
 here=$(CDPATH='' cd -- "$(dirname -- "$0")" && pwd -P)
 root=$(dirname -- "$(dirname -- "$here")")
