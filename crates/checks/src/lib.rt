@@ -1,6 +1,7 @@
 // The records of a block, codes 5 to 7, and every code of a block in order. The definitions that the contracts cite stand in the specs of block.
 
 #![tactic(auto)]
+
 ghost use Rattle.std.specs.Prelude.{◌≡◌, ◌<◌, ◌≤◌, length};
 ghost use Rattle.block.specs.Format.{block_size, most_tasks};
 ghost use Rattle.block.specs.Record.{task_of};

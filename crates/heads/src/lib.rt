@@ -1,6 +1,7 @@
 // The seal of a block, its length and its check, and its head: codes 1 to 4. The definitions that the contracts cite stand in the specs of block.
 
 #![tactic(auto)]
+
 ghost use Rattle.std.specs.Prelude.{◌≡◌, length};
 ghost use Rattle.block.specs.Format.{block_size};
 ghost use Rattle.block.specs.Answers.{first_of};

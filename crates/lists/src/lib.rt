@@ -1,6 +1,7 @@
 // The checks of a list that is to be written: codes 1, 11, 4 and 5. The definitions that the contracts cite stand in the specs of block.
 
 #![tactic(auto)]
+
 ghost use Rattle.std.specs.Prelude.{◌≡◌, ◌≤◌, ◌*◌, length};
 ghost use Rattle.block.specs.Format.{most_tasks, list_size};
 ghost use Rattle.block.specs.Answers.{first_of};

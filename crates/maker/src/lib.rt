@@ -1,6 +1,7 @@
 // The block of a list that passes. The definitions that the contracts cite stand in the specs of block.
 
 #![tactic(auto)]
+
 ghost use Rattle.std.specs.Prelude.{◌≡◌, ◌≤◌, ◌*◌, length};
 ghost use Rattle.block.specs.Format.{most_tasks, list_size};
 ghost use Rattle.block.specs.Answers.{first_of};

@@ -1,6 +1,7 @@
 // A block loaded as a table, and read into a list. The definitions that the contracts cite stand in the specs of block.
 
 #![tactic(auto)]
+
 ghost use Rattle.std.specs.Prelude.{◌≡◌};
 ghost use Rattle.block.specs.Block.{read_of, loaded_of};
 

@@ -1,6 +1,7 @@
 // What the program prints of an input: the lines of a change, or the one line of a refusal.
 
 #![tactic(auto)]
+
 ghost use Rattle.std.specs.Prelude.{◌≡◌, ◌+◌, ◌*◌, ◌≤◌, ◌<◌, ◌∷◌, length};
 ghost use Rattle.lines.specs.Put.{put, next, written};
 ghost use Rattle.lines.specs.Line.{spaced};
@@ -116,7 +117,7 @@ fn put_text(text: &mut [u8], input: &[u8]) -> usize
 }
 
 // The text of an input at the front of out, where it fits; the answer is its length, or 0 where out is too short.
-// No text is empty, and none is longer than mostText.
+// No text is empty, and none is longer than most_text.
 pub fn render(input: &[u8], out: &mut [u8]) -> usize
     ensures value { result ≡ next out.old 0 (printed input.now) }
     ensures out_after { out.new ≡ written out.old 0 (printed input.now) }

@@ -1,6 +1,7 @@
 // The tasks of the records of a block, as a table and as a list of numbers. The definitions that the contracts cite stand in the specs of block.
 
 #![tactic(auto)]
+
 ghost use Rattle.std.specs.Prelude.{◌≡◌, [], ◌++◌, ◌≤◌, ◌*◌, length, drop};
 ghost use Rattle.block.specs.Format.{block_size, most_tasks, list_size};
 ghost use Rattle.block.specs.Block.{tasks_in, list_of, table_of};

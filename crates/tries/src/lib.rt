@@ -1,6 +1,7 @@
 // What the programs that run edge cases share: what a line of their tries says, good lists, damage to a block, lent memory.
 
 #![tactic(auto)]
+
 ghost use Rattle.std.specs.Prelude.{◌≡◌, ◌<◌, ◌≤◌, min, length, drop};
 ghost use Rattle.block.specs.Format.{block_size};
 ghost use Rattle.tries.specs.Tries.{word_by, told_by, number_of, letter_of, shifted, room_of, field_of, good_tasks, most_numbers, good_task, good_list, put_byte, mended, damaged, no_numbers, no_bytes, no_block, agree};

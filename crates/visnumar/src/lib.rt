@@ -1,6 +1,7 @@
 // The functions for C and Rust, each by delegation with the contract of what it calls. include/visnumar.h declares them.
 
 #![tactic(auto)]
+
 ghost use Rattle.std.specs.Prelude.{◌≡◌, length};
 ghost use Rattle.block.specs.Block.{read_of, write_of, reply_of, left_of};
 ghost use Rattle.pair.specs.Analysis.{analyse_of};

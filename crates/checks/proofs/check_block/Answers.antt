@@ -8,7 +8,6 @@ use Rattle.block.specs.declared.Verdict.TheVariants.{Passed}
 use lib.ListN.{length}
 use Prim.Native.Nat.{ℕ, ◌≤◌}
 use mathlib.Core.Path.{◌≡◌, sym, ap, ◌∙◌}
-use borrow.Author.Rules.{rules}
 use native.Mathlib.Omega.{arith}
 use Rattle.checks.proofs.check_block.Goals as goal
 

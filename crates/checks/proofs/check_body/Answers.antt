@@ -6,7 +6,6 @@ use Rattle.block.specs.Answers.{refusal, refuse, first_of}
 use Rattle.block.specs.declared.Verdict.TheVariants.{Passed}
 use mathlib.Core.Bool.{Bool, not}
 use mathlib.Core.Path.{◌≡◌, sym, ap, ◌∙◌}
-use borrow.Author.Rules.{rules}
 use Rattle.checks.proofs.check_body.Goals as goal
 
 pub returns-in-Refused : goal.returns-in-Refused

@@ -6,11 +6,10 @@ use Rattle.block.specs.Block.{record_part, tasks_in}
 use Rattle.block.specs.Checks.{double_check}
 use Rattle.block.specs.Answers.{refusal, refuse, first_of}
 use Rattle.block.specs.Record.{task_of}
-use Rattle.block.specs.declared.Verdict.TheVariants.{Passed}
 use Rattle.block.specs.declared.Task.{Task}
 use mathlib.Core.Bool.{Bool}
 use mathlib.Core.Path.{◌≡◌, refl, sym, ap, ◌∙◌}
-use Prim.Native.Nat.{ℕ, ◌≤◌, ◌-◌}
+use Prim.Native.Nat.{ℕ}
 use borrow.Author.Rules.{rules}
 use native.Mathlib.Omega.{arith}
 use Rattle.checks.proofs.check_doubles.Goals as goal

@@ -3,9 +3,8 @@ use Rattle.base.specs.Lists.{up_to}
 use Rattle.block.specs.Block.{record_part, each_record}
 use Rattle.block.specs.Checks.{record_checks}
 use Rattle.block.specs.Answers.{first_of}
-use Rattle.block.specs.declared.Verdict.TheVariants.{Passed}
 use mathlib.Core.Path.{◌≡◌, refl, sym, ap, ◌∙◌}
-use Prim.Native.Nat.{ℕ, ◌≤◌, ◌-◌}
+use Prim.Native.Nat.{ℕ}
 use borrow.Author.Rules.{rules}
 use native.Mathlib.Omega.{arith}
 use Rattle.checks.proofs.check_records.Goals as goal

@@ -2,9 +2,8 @@ use Rattle.checks.proofs.Doubles.{borne_none, borne_more, borne_at}
 use Rattle.block.specs.Block.{record_part, tasks_in}
 use Rattle.block.specs.Checks.{borne_in}
 use Rattle.block.specs.Record.{task_of}
-use mathlib.Core.Bool.{false}
 use mathlib.Core.Path.{◌≡◌, sym, ap, ◌∙◌}
-use Prim.Native.Nat.{ℕ, ◌≤◌, ◌-◌}
+use Prim.Native.Nat.{ℕ}
 use borrow.Author.Rules.{rules}
 use native.Mathlib.Omega.{arith}
 use Rattle.checks.proofs.is_borne.Goals as goal

@@ -1,13 +1,10 @@
 -- `is_borne` says whether an earlier record bears what record k bears. Invariant: none of the first j does.
-use Rattle.checks.proofs.Doubles.{borne_none, borne_more, borne_at}
 use Rattle.block.specs.Block.{record_part, tasks_in}
 use Rattle.block.specs.Checks.{borne_in}
 use Rattle.block.specs.Record.{task_of}
 use mathlib.Core.Bool.{false}
-use mathlib.Core.Path.{◌≡◌, sym, ap, ◌∙◌}
-use Prim.Native.Nat.{ℕ, ◌≤◌, ◌-◌}
-use borrow.Author.Rules.{rules}
-use native.Mathlib.Omega.{arith}
+use mathlib.Core.Path.{◌≡◌}
+use Prim.Native.Nat.{◌≤◌, ◌-◌}
 use Rattle.checks.proofs.is_borne.Given as goal
 
 abbrev pub invariant-loop-j : goal.invariant-loop-j

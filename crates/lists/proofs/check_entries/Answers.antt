@@ -2,10 +2,9 @@ use Rattle.block.proofs.Verdicts.{each_more, each_stop}
 use Rattle.block.specs.Block.{numbers_part, each_entry}
 use Rattle.block.specs.Checks.{number_checks}
 use Rattle.block.specs.Answers.{first_of}
-use Rattle.block.specs.declared.Verdict.TheVariants.{Passed}
 use Rattle.base.specs.Lists.{up_to}
 use mathlib.Core.Path.{◌≡◌, refl, sym, ap, ◌∙◌}
-use Prim.Native.Nat.{ℕ, ◌≤◌, ◌-◌}
+use Prim.Native.Nat.{ℕ}
 use borrow.Author.Rules.{rules}
 use native.Mathlib.Omega.{arith}
 use Rattle.lists.proofs.check_entries.Goals as goal

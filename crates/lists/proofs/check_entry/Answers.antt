@@ -3,7 +3,6 @@ use Rattle.block.specs.Checks.{task_checks}
 use Rattle.block.specs.Answers.{first_of}
 use Rattle.block.specs.declared.Task.{Task}
 use mathlib.Core.Path.{sym, ap, ◌∙◌}
-use borrow.Author.Rules.{rules}
 use Rattle.lists.proofs.check_entry.Goals as goal
 
 pub task_from-requires : goal.task_from-requires

@@ -2,7 +2,6 @@
 use Rattle.block.specs.Block.{list_head}
 use Rattle.block.specs.Answers.{first_of}
 use borrow.Author.Tests.{eq-eqb, ne_eqb, le-leb, lt-leb}
-use borrow.Author.Rules.{rules}
 use Rattle.lists.proofs.check_list.Goals as goal
 
 pub returns-then-room-ne-BLOCK_SIZE : goal.returns-then-room-ne-BLOCK_SIZE

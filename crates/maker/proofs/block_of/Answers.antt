@@ -2,11 +2,10 @@ use Rattle.layout.proofs.Written.{head_long, grown, grown_none, grown_length, gr
 use Rattle.layout.proofs.Entries.{entry_fits}
 use Rattle.block.specs.Block.{numbers_part, head_of}
 use Rattle.block.specs.Record.{task_from, record_of, word_bytes}
-use Rattle.block.specs.Format.{block_size}
 use Rattle.block.specs.declared.Task.{Task}
 use lib.ListN.{length, length-take, length-drop}
 use mathlib.Core.Path.{◌≡◌, sym, ap, ◌∙◌}
-use Prim.Native.Nat.{ℕ, ◌≤◌, ◌-◌, ◌+◌}
+use Prim.Native.Nat.{ℕ, ◌+◌}
 use borrow.Author.Rules.{rules}
 use native.Mathlib.Omega.{arith}
 use Rattle.maker.proofs.block_of.Goals as goal

@@ -1,15 +1,11 @@
 -- `block_of` gives the block of n tasks. Invariant: the block has its head, the first k records, and zeros behind them.
-use Rattle.layout.proofs.Written.{head_long, grown, grown_none, grown_length, grown_more, grown_sealed}
-use Rattle.layout.proofs.Entries.{entry_fits}
+use Rattle.layout.proofs.Written.{grown}
 use Rattle.block.specs.Block.{numbers_part, head_of}
-use Rattle.block.specs.Record.{task_from, record_of, word_bytes}
+use Rattle.block.specs.Record.{task_from}
 use Rattle.block.specs.Format.{block_size}
-use Rattle.block.specs.declared.Task.{Task}
-use lib.ListN.{length, length-take, length-drop}
-use mathlib.Core.Path.{◌≡◌, sym, ap, ◌∙◌}
-use Prim.Native.Nat.{ℕ, ◌≤◌, ◌-◌, ◌+◌}
-use borrow.Author.Rules.{rules}
-use native.Mathlib.Omega.{arith}
+use lib.ListN.{length}
+use mathlib.Core.Path.{◌≡◌}
+use Prim.Native.Nat.{◌≤◌, ◌-◌}
 use Rattle.maker.proofs.block_of.Given as goal
 
 abbrev pub invariant-loop-k : goal.invariant-loop-k

@@ -3,7 +3,6 @@ use Rattle.block.proofs.Reading.{block_length, block_count}
 use Rattle.block.specs.Block.{block_verdict, reading_of, loaded_of}
 use Rattle.block.specs.declared.Verdict.TheVariants.{Passed}
 use mathlib.Core.Path.{◌≡◌, sym, ◌∙◌}
-use borrow.Author.Rules.{rules}
 use native.Mathlib.Omega.{arith}
 use Rattle.reader.proofs.load.Goals as goal
 

@@ -8,7 +8,6 @@ use lib.ListN.{drop}
 use mathlib.Core.List.{◌++◌}
 use mathlib.Core.Path.{◌≡◌, refl, sym, ap, ◌∙◌}
 use Prim.Native.Nat.{ℕ, ◌*◌}
-use borrow.Author.Rules.{rules}
 use native.Mathlib.Omega.{arith}
 use Rattle.reader.proofs.read.Goals as goal
 

@@ -1,13 +1,12 @@
-use Prim.Native.Nat.{ℕ, ◌+◌, ◌*◌, ◌-◌, ◌≤◌, ◌<◌}
-use mathlib.Core.Path.{◌≡◌, refl, sym, ap, ◌∙◌}
-use mathlib.Core.List.{List, ◌∷◌, ◌++◌}
-use lib.ListN.{length, take, drop, replicate, length-set}
+use Prim.Native.Nat.{ℕ, ◌+◌, ◌<◌}
+use mathlib.Core.Path.{refl, sym, ap, ◌∙◌}
+use mathlib.Core.List.{List, ◌∷◌}
+use lib.ListN.{length, replicate, length-set}
 use lib.Seq.{take_all}
 use Rattle.base.proofs.Lists.{over_end, over_same}
 use Rattle.lines.specs.Line.{spaced}
 use Rattle.rows.specs.Rows.{row_size}
 use Rattle.render.proofs.Printed.{number_room, row_more, row_room}
-use borrow.Author.Rules.{rules}
 use native.Mathlib.Omega.{arith}
 use Rattle.render.proofs.numbers_of.Goals as goal
 

@@ -1,15 +1,10 @@
 -- The numbers up to i of the row stand behind the task's own; the rest is still zero.
-use Prim.Native.Nat.{ℕ, ◌+◌, ◌*◌, ◌-◌, ◌≤◌, ◌<◌}
-use mathlib.Core.Path.{◌≡◌, refl, sym, ap, ◌∙◌}
-use mathlib.Core.List.{List, ◌∷◌, ◌++◌}
-use lib.ListN.{length, take, drop, replicate, length-set}
-use lib.Seq.{take_all}
-use Rattle.base.proofs.Lists.{over_end, over_same}
+use Prim.Native.Nat.{ℕ, ◌+◌, ◌*◌, ◌-◌, ◌≤◌}
+use mathlib.Core.Path.{◌≡◌}
+use mathlib.Core.List.{◌∷◌, ◌++◌}
+use lib.ListN.{length, take, drop, replicate}
 use Rattle.lines.specs.Line.{spaced}
 use Rattle.rows.specs.Rows.{row_size}
-use Rattle.render.proofs.Printed.{number_room, row_more, row_room}
-use borrow.Author.Rules.{rules}
-use native.Mathlib.Omega.{arith}
 use Rattle.render.proofs.numbers_of.Given as goal
 
 abbrev pub invariant-loop-i : goal.invariant-loop-i

@@ -10,7 +10,6 @@ use Rattle.lines.specs.Words.{change_line, most_change}
 use Rattle.lines.proofs.Words.{change_line_lem, change_room}
 use Rattle.render.specs.Printed.{task_lines}
 use Rattle.render.proofs.Printed.{done_long, done_built}
-use borrow.Author.Rules.{rules}
 use native.Mathlib.Omega.{arith}
 use Rattle.render.proofs.put_done.Goals as goal
 

@@ -4,7 +4,6 @@ use lib.ListN.{length}
 use Rattle.lines.specs.Put.{put}
 use Rattle.render.specs.Printed.{found}
 use Rattle.render.proofs.Printed.{load_tabled, pair_refused, pair_done}
-use borrow.Author.Rules.{rules}
 use Rattle.render.proofs.put_pair.Goals as goal
 
 pub returns-then-answer-ne0 : goal.returns-then-answer-ne0

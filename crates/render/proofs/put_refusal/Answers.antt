@@ -5,7 +5,6 @@ use lib.ListN.{length}
 use Rattle.lines.proofs.Put.{next_fits, written_fits}
 use Rattle.render.specs.Printed.{refused_line}
 use Rattle.render.proofs.Printed.{refused_room}
-use borrow.Author.Rules.{rules}
 use native.Mathlib.Omega.{arith}
 use Rattle.render.proofs.put_refusal.Goals as goal
 

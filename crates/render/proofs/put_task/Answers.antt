@@ -6,7 +6,6 @@ use Rattle.lines.specs.Put.{next, written}
 use Rattle.lines.proofs.Put.{next_fits, written_fits}
 use Rattle.render.specs.Printed.{task_line}
 use Rattle.render.proofs.Printed.{task_line_lem, task_room}
-use borrow.Author.Rules.{rules}
 use native.Mathlib.Omega.{arith}
 use Rattle.render.proofs.put_task.Goals as goal
 

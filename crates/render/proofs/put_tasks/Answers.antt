@@ -1,12 +1,10 @@
-use Prim.Native.Nat.{ℕ, ◌+◌, ◌*◌, ◌-◌, ◌≤◌, ◌<◌}
+use Prim.Native.Nat.{ℕ, ◌+◌, ◌<◌}
 use mathlib.Core.Path.{◌≡◌, refl, ap, ◌∙◌}
 use lib.ListN.{length, take}
-use Rattle.block.specs.Format.{most_tasks}
 use Rattle.lines.specs.Put.{put}
 use Rattle.lines.proofs.Put.{put_nothing}
-use Rattle.render.specs.Printed.{task_lines, most_line}
+use Rattle.render.specs.Printed.{task_lines}
 use Rattle.render.proofs.Printed.{lines_longer, put_one_more}
-use borrow.Author.Rules.{rules}
 use native.Mathlib.Omega.{arith}
 use Rattle.render.proofs.put_tasks.Goals as goal
 

@@ -1,14 +1,10 @@
 -- The lines of the tasks up to k stand from the place on.
-use Prim.Native.Nat.{ℕ, ◌+◌, ◌*◌, ◌-◌, ◌≤◌, ◌<◌}
-use mathlib.Core.Path.{◌≡◌, refl, ap, ◌∙◌}
+use Prim.Native.Nat.{◌+◌, ◌*◌, ◌-◌, ◌≤◌}
+use mathlib.Core.Path.{◌≡◌}
 use lib.ListN.{length, take}
 use Rattle.block.specs.Format.{most_tasks}
 use Rattle.lines.specs.Put.{put}
-use Rattle.lines.proofs.Put.{put_nothing}
 use Rattle.render.specs.Printed.{task_lines, most_line}
-use Rattle.render.proofs.Printed.{lines_longer, put_one_more}
-use borrow.Author.Rules.{rules}
-use native.Mathlib.Omega.{arith}
 use Rattle.render.proofs.put_tasks.Given as goal
 
 abbrev pub invariant-loop-k : goal.invariant-loop-k

@@ -1,9 +1,8 @@
 -- The two parts of the input are its two blocks.
-use mathlib.Core.Path.{sym, ap, ◌∙◌}
+use mathlib.Core.Path.{ap, ◌∙◌}
 use lib.ListN.{length}
 use Rattle.lines.specs.Put.{put}
 use Rattle.render.proofs.Printed.{part_old, part_new, printed_is}
-use borrow.Author.Rules.{rules}
 use Rattle.render.proofs.put_text.Goals as goal
 
 pub returns : goal.returns

@@ -3,7 +3,6 @@ use mathlib.Core.Path.{ap, ◌∙◌}
 use Rattle.lines.specs.Put.{next, written}
 use Rattle.render.specs.Printed.{printed}
 use Rattle.render.proofs.Printed.{text_front}
-use borrow.Author.Rules.{rules}
 use native.Mathlib.Omega.{arith}
 use Rattle.render.proofs.render.Goals as goal
 

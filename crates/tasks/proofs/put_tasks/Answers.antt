@@ -3,10 +3,10 @@ use Rattle.block.specs.Block.{record_part, tasks_in, list_of}
 use Rattle.block.specs.Record.{task_of, numbers_of}
 use Rattle.block.specs.Format.{list_size}
 use Rattle.base.specs.Lists.{up_to}
-use lib.ListN.{length, drop}
+use lib.ListN.{drop}
 use mathlib.Core.List.{◌++◌, flat_map}
 use mathlib.Core.Path.{◌≡◌, refl, ap, ◌∙◌}
-use Prim.Native.Nat.{ℕ, ◌≤◌, ◌*◌, ◌-◌}
+use Prim.Native.Nat.{ℕ, ◌*◌}
 use borrow.Author.Rules.{rules}
 use native.Mathlib.Omega.{arith}
 use Rattle.tasks.proofs.put_tasks.Goals as goal

@@ -1,15 +1,10 @@
 -- `put_tasks` puts n tasks to the front of a list. Invariant: the list holds the first k tasks, and the rest is as it was.
-use Rattle.numbers.proofs.Numbers.{list_more}
-use Rattle.block.specs.Block.{record_part, tasks_in, list_of}
-use Rattle.block.specs.Record.{task_of, numbers_of}
+use Rattle.block.specs.Block.{tasks_in, list_of}
 use Rattle.block.specs.Format.{list_size}
-use Rattle.base.specs.Lists.{up_to}
 use lib.ListN.{length, drop}
-use mathlib.Core.List.{◌++◌, flat_map}
-use mathlib.Core.Path.{◌≡◌, refl, ap, ◌∙◌}
-use Prim.Native.Nat.{ℕ, ◌≤◌, ◌*◌, ◌-◌}
-use borrow.Author.Rules.{rules}
-use native.Mathlib.Omega.{arith}
+use mathlib.Core.List.{◌++◌}
+use mathlib.Core.Path.{◌≡◌}
+use Prim.Native.Nat.{◌≤◌, ◌*◌, ◌-◌}
 use Rattle.tasks.proofs.put_tasks.Given as goal
 
 abbrev pub invariant-loop-k : goal.invariant-loop-k

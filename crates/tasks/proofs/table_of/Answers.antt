@@ -1,14 +1,10 @@
 use Rattle.block.proofs.Tables.{table_more, table_is}
-use Rattle.block.specs.Block.{record_part, tasks_in}
-use Rattle.block.specs.Checks.{no_task}
+use Rattle.block.specs.Block.{record_part}
 use Rattle.block.specs.Record.{task_of}
-use Rattle.block.specs.Format.{most_tasks}
 use Rattle.block.specs.declared.Table.{Table}
 use Rattle.base.specs.Lists.{up_to}
-use lib.ListN.{length, replicate, length-set}
-use mathlib.Core.List.{◌++◌}
-use mathlib.Core.Path.{◌≡◌, refl, ap}
-use Prim.Native.Nat.{◌≤◌, ◌-◌}
+use lib.ListN.{length, length-set}
+use mathlib.Core.Path.{refl, ap}
 use borrow.Author.Rules.{rules}
 use native.Mathlib.Omega.{arith}
 use Rattle.tasks.proofs.table_of.Goals as goal

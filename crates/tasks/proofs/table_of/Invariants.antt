@@ -1,17 +1,11 @@
 -- `table_of` gives the table of n records. Invariant: the table has the first k tasks, empty places behind them, and count n.
-use Rattle.block.proofs.Tables.{table_more, table_is}
-use Rattle.block.specs.Block.{record_part, tasks_in}
+use Rattle.block.specs.Block.{tasks_in}
 use Rattle.block.specs.Checks.{no_task}
-use Rattle.block.specs.Record.{task_of}
 use Rattle.block.specs.Format.{most_tasks}
-use Rattle.block.specs.declared.Table.{Table}
-use Rattle.base.specs.Lists.{up_to}
-use lib.ListN.{length, replicate, length-set}
+use lib.ListN.{length, replicate}
 use mathlib.Core.List.{◌++◌}
-use mathlib.Core.Path.{◌≡◌, refl, ap}
+use mathlib.Core.Path.{◌≡◌}
 use Prim.Native.Nat.{◌≤◌, ◌-◌}
-use borrow.Author.Rules.{rules}
-use native.Mathlib.Omega.{arith}
 use Rattle.tasks.proofs.table_of.Given as goal
 
 abbrev pub invariant-loop-k : goal.invariant-loop-k

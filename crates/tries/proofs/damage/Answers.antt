@@ -1,7 +1,6 @@
 -- `damage` puts two bytes, and mends the check where the line says so.
 use Rattle.tries.specs.Tries.{damaged}
 use borrow.Author.Tests.{eq-eqb, ne_eqb}
-use borrow.Author.Rules.{rules}
 use Rattle.tries.proofs.damage.Goals as goal
 
 pub returns-then-number-ne1 : goal.returns-then-number-ne1

@@ -2,7 +2,6 @@
 use Rattle.tries.specs.Tries.{field_of}
 use native.Mathlib.Omega.{arith}
 use borrow.Author.Tests.{eq-eqb, ne_eqb}
-use borrow.Author.Rules.{rules}
 use Rattle.tries.proofs.field.Goals as goal
 
 pub returns-then-letter-eq107 : goal.returns-then-letter-eq107

@@ -1,14 +1,12 @@
 use Rattle.numbers.proofs.Numbers.{list_more}
 use Rattle.tries.proofs.Tries.{list_whole}
-use Rattle.tries.specs.Tries.{good_tasks, most_numbers, good_task, good_list}
+use Rattle.tries.specs.Tries.{good_tasks, good_task, good_list}
 use Rattle.base.specs.Lists.{up_to}
-use Rattle.block.specs.Block.{list_of}
 use Rattle.block.specs.Record.{numbers_of}
 use Rattle.block.specs.Format.{list_size}
-use lib.ListN.{length, drop}
-use mathlib.Core.List.{◌++◌, flat_map}
-use mathlib.Core.Path.{◌≡◌, refl, ap, ◌∙◌}
-use Prim.Native.Nat.{◌+◌, ◌≤◌, ◌*◌, ◌-◌}
+use mathlib.Core.List.{flat_map}
+use mathlib.Core.Path.{refl, ap, ◌∙◌}
+use Prim.Native.Nat.{◌+◌, ◌*◌, ◌-◌}
 use borrow.Rule.Slice.PartMut.{same_len_mid}
 use native.Mathlib.Omega.{arith}
 use borrow.Author.Rules.{rules}

@@ -1,7 +1,6 @@
 -- `good_task` gives a task of a good list.
 use Rattle.tries.specs.Tries.{good_task}
 use borrow.Author.Tests.{eq-eqb, ne_eqb}
-use borrow.Author.Rules.{rules}
 use Rattle.tries.proofs.good_task.Goals as goal
 
 pub returns-then-side-eq0 : goal.returns-then-side-eq0

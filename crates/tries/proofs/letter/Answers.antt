@@ -1,8 +1,6 @@
-use Rattle.tries.specs.Tries.{letter_from, letter_of}
 use Rattle.tries.proofs.Tries.{letter_here, letter_more, letter_end, word_most}
-use lib.ListN.{length, get_or, drop}
-use mathlib.Core.Path.{◌≡◌, refl, sym, ◌∙◌}
-use Prim.Native.Nat.{◌≤◌, ◌-◌}
+use lib.ListN.{get_or}
+use mathlib.Core.Path.{refl, sym, ◌∙◌}
 use native.Mathlib.Omega.{arith}
 use borrow.Author.Rules.{rules}
 use Rattle.tries.proofs.letter.Goals as goal

@@ -1,11 +1,8 @@
 -- `letter` gives the first letter of word k. Invariant: what is left of the line has it.
 use Rattle.tries.specs.Tries.{letter_from, letter_of}
-use Rattle.tries.proofs.Tries.{letter_here, letter_more, letter_end, word_most}
-use lib.ListN.{length, get_or, drop}
-use mathlib.Core.Path.{◌≡◌, refl, sym, ◌∙◌}
+use lib.ListN.{length, drop}
+use mathlib.Core.Path.{◌≡◌}
 use Prim.Native.Nat.{◌≤◌, ◌-◌}
-use native.Mathlib.Omega.{arith}
-use borrow.Author.Rules.{rules}
 use Rattle.tries.proofs.letter.Given as goal
 
 abbrev pub invariant-loop-i : goal.invariant-loop-i

@@ -1,6 +1,5 @@
 -- `mend` puts the check where it stands.
 use Rattle.tries.specs.Tries.{mended}
-use borrow.Author.Rules.{rules}
 use Rattle.tries.proofs.mend.Goals as goal
 
 pub returns : goal.returns

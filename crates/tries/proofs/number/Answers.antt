@@ -1,8 +1,6 @@
-use Rattle.tries.specs.Tries.{number_from, number_of}
 use Rattle.tries.proofs.Tries.{number_more, number_end, word_most}
-use lib.ListN.{length, get_or, drop}
-use mathlib.Core.Path.{◌≡◌, refl, ◌∙◌}
-use Prim.Native.Nat.{◌≤◌, ◌-◌}
+use lib.ListN.{get_or}
+use mathlib.Core.Path.{refl, ◌∙◌}
 use native.Mathlib.Omega.{arith}
 use borrow.Author.Tests.{lt-ltb, le-ltb}
 use borrow.Author.Rules.{rules}

@@ -1,12 +1,8 @@
 -- `number` gives what word k says. Invariant: what is left of the line says the rest.
 use Rattle.tries.specs.Tries.{number_from, number_of}
-use Rattle.tries.proofs.Tries.{number_more, number_end, word_most}
-use lib.ListN.{length, get_or, drop}
-use mathlib.Core.Path.{◌≡◌, refl, ◌∙◌}
+use lib.ListN.{length, drop}
+use mathlib.Core.Path.{◌≡◌}
 use Prim.Native.Nat.{◌≤◌, ◌-◌}
-use native.Mathlib.Omega.{arith}
-use borrow.Author.Tests.{lt-ltb, le-ltb}
-use borrow.Author.Rules.{rules}
 use Rattle.tries.proofs.number.Given as goal
 
 abbrev pub invariant-loop-i : goal.invariant-loop-i

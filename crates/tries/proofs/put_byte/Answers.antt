@@ -1,6 +1,5 @@
 -- `put_byte` puts a byte where there is such a place.
 use lib.Seq.{set_out}
-use borrow.Author.Rules.{rules}
 use Rattle.tries.proofs.put_byte.Goals as goal
 
 pub returns-then-at-bytes : goal.returns-then-at-bytes

@@ -1,8 +1,5 @@
-use Rattle.tries.specs.Tries.{agree}
 use Rattle.tries.proofs.Tries.{agree_more, agree_not, agree_end}
-use lib.ListN.{length, drop}
-use mathlib.Core.Path.{◌≡◌, refl, sym, ◌∙◌}
-use Prim.Native.Nat.{◌-◌, min}
+use mathlib.Core.Path.{refl, sym, ◌∙◌}
 use native.Mathlib.Omega.{arith}
 use borrow.Author.Rules.{rules}
 use Rattle.tries.proofs.same_from.Goals as goal

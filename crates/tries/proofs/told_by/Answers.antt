@@ -1,7 +1,6 @@
 -- `told_by` takes a digit of word k.
 use Rattle.tries.specs.Tries.{told_by}
 use borrow.Author.Tests.{eq-eqb, ne_eqb}
-use borrow.Author.Rules.{rules}
 use Rattle.tries.proofs.told_by.Goals as goal
 
 pub returns-then-b-eq32 : goal.returns-then-b-eq32

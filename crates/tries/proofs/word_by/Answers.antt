@@ -1,7 +1,6 @@
 -- `word_by` counts a space.
 use Rattle.tries.specs.Tries.{word_by}
 use borrow.Author.Tests.{eq-eqb, ne_eqb}
-use borrow.Author.Rules.{rules}
 use Rattle.tries.proofs.word_by.Goals as goal
 
 pub returns-then-b-eq32 : goal.returns-then-b-eq32
