@@ -3,6 +3,7 @@
 // or changed, and, once done, the whole report.
 
 #![tactic(auto)]
+
 ghost use Rattle.std.specs.Prelude.{◌≤◌};
 ghost use Rattle.tries.specs.Tries.{most_numbers};
 

@@ -2,6 +2,7 @@
 // For each it prints the lines of the printing program and a line with a dot; a longer or a cut-off input ends it.
 
 #![tactic(auto)]
+
 ghost use Rattle.std.specs.Prelude.{◌≡◌, ◌+◌, ◌<◌, ◌≤◌, ◌++◌, length, take, OnOk};
 ghost use Rattle.std.specs.Io.KnownBytes.{Appends};
 ghost use Rattle.render.specs.Printed.{printed, most_text};

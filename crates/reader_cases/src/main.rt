@@ -3,6 +3,7 @@
 // The lines to be printed stand in stdout, worked out from the paper.
 
 #![tactic(auto)]
+
 use block::{Answer, BLOCK_SIZE, LIST_SIZE};
 use std::alloc::Global;
 use std::io;

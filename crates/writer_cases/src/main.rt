@@ -3,6 +3,7 @@
 // The lines to be printed stand in stdout, worked out from the paper.
 
 #![tactic(auto)]
+
 ghost use Rattle.std.specs.Prelude.{◌<◌};
 
 use block::LIST_SIZE;

@@ -1,5 +1,5 @@
 -- There is room for any text and the dot behind it, so both are written.
-use Rattle.std.proofs.Common.{◌≡◌, ◌≤◌, ℕ, List, [], ◌∷◌, ◌++◌, length, length-append, take, ◌+◌, arith, refl, sym, ap, ◌∙◌}
+use Rattle.std.proofs.Common.{◌≡◌, ◌≤◌, ℕ, List, [], ◌∷◌, ◌++◌, length, length-append, take, ◌+◌, arith, refl, ap, ◌∙◌}
 use Rattle.lines.specs.Line.{line_of, rest_of, spaced}
 use Rattle.lines.specs.Put.{put, next, written}
 use Rattle.lines.proofs.Put.{next_fits, written_fits, put_front, put_length, put_more}
@@ -40,11 +40,11 @@ module _ (b s u : List ℕ) (room : length s + length u ≤ length b) (end : ℕ
 
 pub returns-clause-bound : goal.returns-clause-bound
 returns-clause-bound c =
-    both_fit c.args.out.now (printed c.args.input.now) (line_of (46 ∷ []) []) (let k = ap length dot in let l = c.render-end.ensures.input_len_bound in omega (arith, k, l, c.requires))
+    both_fit c.args.out.now (printed c.args.input.now) (line_of (46 ∷ []) []) (let k = ap length dot in let l = c.render-end.ensures.bounded in omega (arith, k, l, c.requires))
     _ _ c.render-end.ensures.value c.render-end.ensures.out_after _ _ c.put_line.ensures.value c.put_line.ensures.buf_after
 
 pub returns-clause-text : goal.returns-clause-text
 returns-clause-text c =
-    both_stand c.args.out.now (printed c.args.input.now) (line_of (46 ∷ []) []) (let k = ap length dot in let l = c.render-end.ensures.input_len_bound in omega (arith, k, l, c.requires))
+    both_stand c.args.out.now (printed c.args.input.now) (line_of (46 ∷ []) []) (let k = ap length dot in let l = c.render-end.ensures.bounded in omega (arith, k, l, c.requires))
     _ _ c.render-end.ensures.value c.render-end.ensures.out_after _ _ c.put_line.ensures.value c.put_line.ensures.buf_after
     ∙ ap (λ l. printed c.args.input.now ++ l) dot

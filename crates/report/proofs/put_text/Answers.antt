@@ -1,7 +1,7 @@
 -- No text is longer than the room, so the whole text stands at its front.
 use Rattle.std.proofs.Common.{◌≡◌, ◌≤◌, length, take, ◌+◌, arith, ap, ◌∙◌}
 use Rattle.lines.proofs.Put.{next_fits, written_fits, put_front}
-use Rattle.render.specs.Printed.{printed, most_text}
+use Rattle.render.specs.Printed.{printed}
 use Rattle.report.proofs.put_text.Goals as goal
 
 pub returns-clause-bound : goal.returns-clause-bound
