@@ -12,9 +12,9 @@ The definitions are pinned where every step makes a case come out wrong, or not 
 can be seen stand in tests/sweep.same with the reason; any other step that is still proved is printed, and the sweep ends with
 status 1. A change that is no definition, as where two arguments have different types, counts apart.
 
-What is proved is one crate of the definitions and the tables of cases (proofs/Cases.antt of each crate) alone, with the types
-that they speak of and no function. A step takes some seconds all the same, most of them to load the kit's library. It runs on
-all processors, or on RT_JOBS of them. A sweep takes an hour or so on four, so it is not part of the gate.
+What is proved is one crate that holds eight copies of the definitions and of the tables of cases (proofs/Cases.antt of each crate),
+each with another step, beside the types that they speak of and no function. It runs on all processors, or on RT_JOBS of them. A
+sweep takes half an hour or so on four, so it is not part of the gate.
 
 Needed: rt.
 """
@@ -40,7 +40,7 @@ SWAPS = [("ltb", "leb"), ("leb", "ltb"), ("min", "max"), ("max", "min"), ("true"
 SIGNS = [("&&", "||"), ("||", "&&"), ("+", "-"), ("-", "+"), ("*", "+"), ("/", "%"), ("%", "/")]
 ORDERED = {"-", "/", "%", "++", "∷"}
 EITHER_WAY = {"min", "max", "eqb"}
-# So many steps are tried in one check, each on definitions and cases of its own: most of a short check is to load the library.
+# The copies: so many steps are tried in one check, since most of a short check is to load the library.
 PLACES = 8
 PRELUDE = "Rattle.std.specs.Prelude"
 WORD = r"[^\s(){};,]+"
@@ -239,7 +239,7 @@ def moved(text, place):
 
 
 def build(at):
-    """Writes the repository with the one crate: definitions and cases stand in it so many times, each time by themselves."""
+    """Writes the repository with the one crate: definitions and cases in as many copies as there are places."""
     parts = {"specs": {}, "proofs": {}}
     todo = [("specs", crate, file) for crate in SWEPT for file in swept(crate)]
     todo += [("proofs", crate, "Cases") for crate in SWEPT if os.path.exists(f"{TOP}/crates/{crate}/proofs/Cases.antt")]
