@@ -6,7 +6,7 @@
 # make soak   random inputs against the second program for SECONDS (60)
 # make stored every stored block and expected file written anew, to read in git diff before it is committed
 # make shares every crate proved from nothing, one after the other, and what each takes; refused where one takes more than 4 times what base takes
-# make sweep  every small change of a definition that a reader believes, which a computed case has to refuse (an hour or so)
+# make sweep  every small change of a definition that a reader believes, which a computed case has to refuse (half an hour or so)
 .POSIX:
 .PHONY: run test setup text build programs lib library bench soak stored shares sweep clean
 SECONDS = 60

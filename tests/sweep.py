@@ -12,13 +12,13 @@ The definitions are pinned where every step makes a case come out wrong, or not 
 can be seen stand in tests/sweep.same with the reason; any other step that is still proved is printed, and the sweep ends with
 status 1. A change that is no definition, as where two arguments have different types, counts apart.
 
-What is proved is one crate of the definitions and the tables of cases (proofs/Cases.antt of each crate) alone, with the types
-that they speak of and no function. A step takes some seconds all the same, most of them to load the kit's library. It runs on
-all processors, or on RT_JOBS of them. A sweep takes an hour or so on four, so it is not part of the gate.
+What is proved is one crate that holds eight copies of the definitions and of the tables of cases (proofs/Cases.antt of each crate),
+each with another step, beside the types that they speak of and no function. It runs on all processors, or on RT_JOBS of them. A
+sweep takes half an hour or so on four, so it is not part of the gate.
 
 Needed: rt.
 """
-import concurrent.futures, os, re, shutil, subprocess, sys, tempfile
+import concurrent.futures, itertools, os, re, shutil, subprocess, sys, tempfile
 
 # The files of definitions that are swept, by crate. What they and the cases use besides stands beside them, unchanged.
 ALL = None  # every file of the crate
@@ -40,6 +40,8 @@ SWAPS = [("ltb", "leb"), ("leb", "ltb"), ("min", "max"), ("max", "min"), ("true"
 SIGNS = [("&&", "||"), ("||", "&&"), ("+", "-"), ("-", "+"), ("*", "+"), ("/", "%"), ("%", "/")]
 ORDERED = {"-", "/", "%", "++", "∷"}
 EITHER_WAY = {"min", "max", "eqb"}
+# The copies: so many steps are tried in one check, since most of a short check is to load the library.
+PLACES = 8
 PRELUDE = "Rattle.std.specs.Prelude"
 WORD = r"[^\s(){};,]+"
 READ = re.compile(r"([^.]+)((?:\.[^.]+)*)")
@@ -226,18 +228,18 @@ def declared(crates):
     return "\n".join(found.values())
 
 
-def module(crate, file):
-    return crate.title().replace("_", "") + file
+def module(crate, file, place):
+    return f"{crate.title().replace('_', '')}{file}At{place}"
 
 
-def moved(text):
-    """A file's text as it stands in the one crate."""
+def moved(text, place):
+    """A file's text as it stands in a copy of the one crate."""
     text = re.sub(r"Rattle\.\w+\.specs\.declared\.", "Rattle.one.specs.declared.", text)
-    return re.sub(USE, lambda m: "Rattle.one.specs." + module(m.group(1), m.group(2)), text)
+    return re.sub(USE, lambda m: "Rattle.one.specs." + module(m.group(1), m.group(2), place), text)
 
 
 def build(at):
-    """Writes the repository with the one crate."""
+    """Writes the repository with the one crate: definitions and cases in as many copies as there are places."""
     parts = {"specs": {}, "proofs": {}}
     todo = [("specs", crate, file) for crate in SWEPT for file in swept(crate)]
     todo += [("proofs", crate, "Cases") for crate in SWEPT if os.path.exists(f"{TOP}/crates/{crate}/proofs/Cases.antt")]
@@ -251,32 +253,41 @@ def build(at):
     open(f"{at}/crates/one/src/lib.rt", "w").write(declared({crate: 0 for crate, _ in parts["specs"]}))
     for part, texts in parts.items():
         os.mkdir(f"{at}/crates/one/{part}")
-        for (crate, file), text in texts.items():
-            open(f"{at}/crates/one/{part}/{module(crate, file)}.antt", "w").write(moved(text))
-        open(f"{at}/crates/one/{part}/Lib.antt", "w").write("".join(f"pub mod {module(*each)}\n" for each in sorted(texts)))
+        names = []
+        for (crate, file), text in sorted(texts.items()):
+            for place in range(PLACES):
+                names.append(module(crate, file, place))
+                open(f"{at}/crates/one/{part}/{names[-1]}.antt", "w").write(moved(text, place))
+        open(f"{at}/crates/one/{part}/Lib.antt", "w").write("".join(f"pub mod {name}\n" for name in names))
 
 
-def proved(at):
-    """What the prover says of the one crate: proved; refused by a case; unfit, where a definition is none; endless, where a case
-    takes more steps than the prover allows."""
+def proved(at, places):
+    """What the prover says of each of these places: proved; refused by a case; unfit, where a definition is none; endless, where a
+    case takes more steps than the prover allows; None where that is not sure."""
     said = subprocess.run(["rt", "check", "--jobs", "1"], cwd=f"{at}/crates/one", capture_output=True, text=True)
     said = said.stdout + said.stderr
     if "\nlogic=proved" in said:
-        return "proved", said
+        return ["proved"] * places, said
     if re.search(LIMITS, said):
-        return "endless", said
+        return ["endless" if places == 1 else None] * places, said
     if "logic=not-proved" not in said:
         sys.exit("sweep: the prover gave no answer:\n" + said[-2000:])
-    return "unfit" if re.search(r"specs/[^ ]*: error", said) else "refused", said
+    wrong = {part: {int(at) for at in re.findall(rf"^\./{part}/\w+At(\d+)\.antt:\d+:\d+: error", said, re.M)} for part in ("specs", "proofs")}
+    return ["unfit" if place in wrong["specs"] else "refused" if place in wrong["proofs"] else None for place in range(places)], said
 
 
-def attempt(at, crate, file, changed):
-    path = f"{at}/crates/one/specs/{module(crate, file)}.antt"
-    whole = open(path).read()
-    open(path, "w").write(moved(changed))
-    answer, said = proved(at)
-    open(path, "w").write(whole)
-    return answer, said
+def attempt(at, jobs):
+    """What the prover says of each step, tried side by side; where that is not sure, tried alone."""
+    paths = [f"{at}/crates/one/specs/{module(crate, file, place)}.antt" for place, (crate, file, _, _) in enumerate(jobs)]
+    whole = [open(path).read() for path in paths]
+    for place, (path, job) in enumerate(zip(paths, jobs)):
+        open(path, "w").write(moved(job[3], place))
+    answers, said = proved(at, len(jobs))
+    for path, text in zip(paths, whole):
+        open(path, "w").write(text)
+    if answers == [None]:
+        sys.exit("sweep: the prover refuses something else than the step:\n" + said[-2000:])
+    return [answer or attempt(at, [job])[0] for answer, job in zip(answers, jobs)]
 
 
 def main():
@@ -295,24 +306,24 @@ def main():
     work = tempfile.mkdtemp()
     try:
         free = [f"{work}/{k}" for k in range(int(os.environ.get("RT_JOBS", 0)) or os.cpu_count() or 1)]
-        for at in free:
-            build(at)
-        answer, said = proved(free[0])
-        if answer != "proved":
+        build(free[0])
+        answers, said = proved(free[0], PLACES)
+        if answers != ["proved"] * PLACES:
             sys.exit("sweep: the cases do not hold as it is:\n" + said[-2000:])
+        for at in free[1:]:
+            shutil.copytree(free[0], at)
 
-        def run(job):
-            crate, file, step, changed = job
+        def run(some):
             at = free.pop()
             try:
-                return step, *attempt(at, crate, file, changed)
+                return zip(some, attempt(at, some))
             finally:
                 free.append(at)
 
         found = {"proved": 0, "refused": 0, "unfit": 0, "endless": 0}
         open_steps = 0
         with concurrent.futures.ThreadPoolExecutor(len(free)) as pool:
-            for step, answer, said in pool.map(run, jobs):
+            for (_, _, step, _), answer in itertools.chain.from_iterable(pool.map(run, [jobs[k:k + PLACES] for k in range(0, len(jobs), PLACES)])):
                 found[answer] += 1
                 if answer == "proved" and step not in same:
                     open_steps += 1
