@@ -33,6 +33,7 @@ pub fn is_marked(block: &[u8], first: u8, second: u8) -> bool
     block[1] == second
 }
 
+#[tactic(auto, unfolding(block::specs::Block::headed))]
 fn is_headed(block: &[u8], side: u32) -> bool
     requires { length block.now ≡ block_size }
     ensures { result ≡ headed side block.now }

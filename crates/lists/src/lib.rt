@@ -37,6 +37,7 @@ pub fn check_entries(list: &[u32], side: u32, n: usize) -> Verdict
 }
 
 // Codes 1, 11 and 4.
+#[tactic(auto, unfolding(block::specs::Answers::first_of, block::specs::Block::list_head))]
 pub fn check_list(side: u32, size: usize, room: usize) -> Verdict
     ensures { result ≡ first_of (list_head side size room) }
 {
