@@ -9,9 +9,8 @@ ghost use Rattle.tries.specs.Tries.{most_numbers};
 
 use block::{BLOCK_SIZE, LIST_SIZE, MOST_TASKS};
 use rows::ROW_SIZE;
-use std::alloc::Global;
 use std::io;
-use std::io::{BufRead, BufReader, Write};
+use std::io::Write;
 use tries::{MOST_NUMBERS, number};
 
 // The largest report lent: a number more than any pair's rows need.
@@ -139,15 +138,16 @@ fn try_line<W: Write>(to: &mut W, line: &[u8], p: &mut Pair) -> io::Result<()> {
     says::say(to, b"\n")
 }
 
-fn try_lines<R: BufRead + Drop, W: Write>(alloc: Global, from: R, to: &mut W) -> io::Result<()> {
+fn try_lines<W: Write>(to: &mut W, text: &[u8]) -> io::Result<()> {
     let mut pair = no_blocks();
-    for line in from.split(alloc, b'\n') {
-        try_line(to, &line?, &mut pair)?;
+    for line in text.split_inclusive(|b| *b == b'\n') {
+        try_line(to, line.strip_suffix(b"\n").unwrap_or(line), &mut pair)?;
     }
     Ok(())
 }
 
 fn main(rt: HostRuntime) -> io::Result<()> {
-    let text = BufReader::new(rt.alloc(), rt.stdin())?;
-    try_lines(rt.alloc(), text, &mut rt.stdout())
+    let mut text = [0u8; 65536];
+    let n = streams::read_full(&mut rt.stdin(), &mut text)?;
+    try_lines(&mut rt.stdout(), &text[..n])
 }

@@ -5,9 +5,8 @@
 #![tactic(auto)]
 
 use block::{Answer, BLOCK_SIZE, LIST_SIZE};
-use std::alloc::Global;
 use std::io;
-use std::io::{BufRead, BufReader, Write};
+use std::io::Write;
 use tries::{MODE, MOST_BYTES, MOST_NUMBERS, number};
 
 // ---- the reader
@@ -110,14 +109,15 @@ fn try_line<W: Write>(to: &mut W, line: &[u8]) -> io::Result<()> {
     says::say(to, b"\n")
 }
 
-fn try_lines<R: BufRead + Drop, W: Write>(alloc: Global, from: R, to: &mut W) -> io::Result<()> {
-    for line in from.split(alloc, b'\n') {
-        try_line(to, &line?)?;
+fn try_lines<W: Write>(to: &mut W, text: &[u8]) -> io::Result<()> {
+    for line in text.split_inclusive(|b| *b == b'\n') {
+        try_line(to, line.strip_suffix(b"\n").unwrap_or(line))?;
     }
     Ok(())
 }
 
 fn main(rt: HostRuntime) -> io::Result<()> {
-    let text = BufReader::new(rt.alloc(), rt.stdin())?;
-    try_lines(rt.alloc(), text, &mut rt.stdout())
+    let mut text = [0u8; 65536];
+    let n = streams::read_full(&mut rt.stdin(), &mut text)?;
+    try_lines(&mut rt.stdout(), &text[..n])
 }

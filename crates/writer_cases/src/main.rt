@@ -7,9 +7,8 @@
 ghost use Rattle.std.specs.Prelude.{◌<◌};
 
 use block::LIST_SIZE;
-use std::alloc::Global;
 use std::io;
-use std::io::{BufRead, BufReader, Write};
+use std::io::Write;
 use tries::{MODE, MOST_BYTES, MOST_NUMBERS, number};
 
 // Puts what word k + 4 of a line says where its word k names a field and its word k + 2 a task.
@@ -79,14 +78,15 @@ fn try_line<W: Write>(to: &mut W, line: &[u8]) -> io::Result<()> {
     says::say(to, b"\n")
 }
 
-fn try_lines<R: BufRead + Drop, W: Write>(alloc: Global, from: R, to: &mut W) -> io::Result<()> {
-    for line in from.split(alloc, b'\n') {
-        try_line(to, &line?)?;
+fn try_lines<W: Write>(to: &mut W, text: &[u8]) -> io::Result<()> {
+    for line in text.split_inclusive(|b| *b == b'\n') {
+        try_line(to, line.strip_suffix(b"\n").unwrap_or(line))?;
     }
     Ok(())
 }
 
 fn main(rt: HostRuntime) -> io::Result<()> {
-    let text = BufReader::new(rt.alloc(), rt.stdin())?;
-    try_lines(rt.alloc(), text, &mut rt.stdout())
+    let mut text = [0u8; 65536];
+    let n = streams::read_full(&mut rt.stdin(), &mut text)?;
+    try_lines(&mut rt.stdout(), &text[..n])
 }

@@ -1,7 +1,7 @@
 -- What came so far stands at the front, and each turn brings a byte or more.
 use Rattle.std.proofs.Common.{◌≤◌, length, take}
 use Rattle.std.specs.Io.KnownBytes.{Consumes}
-use Rattle.report.proofs.read_full.Given as goal
+use Rattle.streams.proofs.read_full.Given as goal
 
 abbrev pub invariant-loop : goal.invariant-loop
 invariant-loop g l =
