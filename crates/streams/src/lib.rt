@@ -1,4 +1,4 @@
-// Reading from a stream, for every program that reads.
+// Reading a stream to the end of a buffer, for the programs that read one input.
 
 #![tactic(auto)]
 
