@@ -1,196 +1,124 @@
--- Laws of rolls and of the terms gathered from them: sums over the terms are sums over the rolled tasks that are above.
-use Prim.Native.Nat.{ℕ, zero, suc, ◌+◌, ◌*◌, ◌≤◌, ◌<◌}
-use mathlib.Core.Path.{◌≡◌, refl, ap, sym, subst, ◌∙◌}
-use mathlib.Core.Bool.{Bool, true, false, cond}
-use mathlib.Core.Logic.{⊎_elim}
-use mathlib.Core.List.{List, [], ◌∷◌}
-use lib.ListN.{length, get_or, set, length-set}
-use lib.Seq.{sets, get_or-set_same, get_or-set_other}
-use native.Mathlib.Omega.{arith}
-use native.Mathlib.Nat.{add-zero, eq-or-lt_of_le}
-use native.Mathlib.Numerals.{add-one}
-use Rattle.base.specs.Sums.{sum}
-use Rattle.base.proofs.Sums.{sum_eq}
-use Rattle.base.specs.Numbers.{recip_of}
+-- The terms gathered from a roll are those of the tasks above the rank.
+use Rattle.std.proofs.Common.{◌≡◌, ℕ, ◌+◌, ◌-◌, ◌<◌, ◌≤◌, Bool, true, false, not, cond, List, [], ◌∷◌, ◌++◌, length, map, get_or, take, drop, set, refl, append_assoc, zero-add, arith, length-set}
+use mir.Val.{bool_byte}
+use Rattle.std.specs.Prelude.{All, ltb}
+use Rattle.std.specs.List.{filter}
+use Rattle.std.proofs.lemmas.Grind.{common_steps}
+use Rattle.std.proofs.lemmas.List.{drop_more, drop_all, map_more, set-append_right, length-map, length-take}
+use Rattle.std.proofs.lemmas.List.Sums.{sum_by-le, sum_by-cons}
+use Rattle.std.proofs.lemmas.List.Filters.{length-filter_both}
+use Rattle.std.proofs.lemmas.List.Elements.{All-map, All-filter}
+use Rattle.base.specs.Sums.{sum_of}
 use Rattle.block.specs.declared.Task.{Task}
-use Rattle.block.specs.Checks.{no_task}
-use Rattle.term.specs.Terms.{Good, Ready, share_of}
-use Rattle.term.proofs.Terms.{sum_more}
-use Rattle.above.specs.Roll.{one, Periodic, six_of, entered, roll_of, Rolled, is_above, count_above, placed, terms_above, entry_of}
+use Rattle.term.specs.declared.Jobs.{Jobs}
+use Rattle.term.specs.declared.Old.{Old}
+use Rattle.term.specs.Terms.{Good, Ready}
+use Rattle.window.specs.Order.{rank}
+use Rattle.above.specs.declared.Rolled.{Rolled}
+use Rattle.above.specs.Roll.{rolled, Sound, new_of, is_above, all_above, count_above, terms_from, gathered, terms_above, left_of, left_above}
 
--- ---- a run of stores, read again
+-- what stands past the end of a roll
+abbrev pub nobody : Rolled
+nobody = record { old = record { jobs = record { recip = 0; period = 0; execution = 0 }; cut = false }; offset = 0; rank = 0 }
 
-sets_other : (l : List ℕ) (at : ℕ) (vs : List ℕ) (j : ℕ) → j < at → get_or (sets l at vs) j 0 ≡ get_or l j 0
-sets_other l at [] j h = refl
-sets_other l at (v ∷ vs) j h = sets_other (set l at v) (suc at) vs j (omega arith) ∙ get_or-set_other l at j v 0 (λ q. omega arith)
+-- one element more of a list is mapped over the front of another
+pub over_more : {A B : Type 0} (f : A → B) (xs : List A) (l : List B) (j : ℕ) (d : A) → j < length xs → length xs ≤ length l
+    → set (map f (take j xs) ++ drop j l) j (f (get_or xs j d)) ≡ map f (take (j + 1) xs) ++ drop (j + 1) l
+over_more f xs l j d h r =
+    let e : length (map f (take j xs)) ≡ j = simp (length-map, length-take) (omega arith) in
+    rw (set-append_right (map f (take j xs)) (drop j l) j j (f (get_or xs j d)) e (omega arith), drop_more l j (f (get_or xs j d)) (omega arith), map_more f xs j d h, append_assoc)
+    (let z : j - j ≡ 0 = omega arith in rw z refl)
 
-sets_at : (l : List ℕ) (at : ℕ) (vs : List ℕ) (k : ℕ) → k < length vs → at + length vs ≤ length l → get_or (sets l at vs) (at + k) 0 ≡ get_or vs k 0
-sets_at l at [] k h f = absurd (omega arith)
-sets_at l at (v ∷ vs) zero h f =
-    rw add-zero (sets_other (set l at v) (suc at) vs at (omega arith) ∙ get_or-set_same l at v 0 (omega arith))
-sets_at l at (v ∷ vs) (suc k) h f =
-    let e : at + suc k ≡ suc at + k = omega arith in
-    rw e (sets_at (set l at v) (suc at) vs k (omega arith) (simp length-set (omega arith)))
+-- a test as a number
+pub byte_is : (b : Bool) → bool_byte b ≡ cond b 1 0
+byte_is true = refl
+byte_is false = refl
 
--- ---- rolls
-
-pub roll_length : (l : List ℕ) (xs : List Task) (n : ℕ) → length (roll_of l xs n) ≡ length l
-unfolding roll_of entered
-roll_length l xs zero = refl
-roll_length l xs (suc n) = simp length-set (roll_length l xs n)
-
--- number k of task j
-pub roll_at : (l : List ℕ) (xs : List Task) (n : ℕ) → 6 * n ≤ length l → (j : ℕ) → j < n → (k : ℕ) → k < 6
-    → get_or (roll_of l xs n) (6 * j + k) 0 ≡ get_or (six_of (get_or xs j no_task)) k 0
-unfolding roll_of entered
-roll_at l xs zero f j h k i = absurd (omega arith)
-roll_at l xs (suc n) f j h k i = ⊎_elim last (before (λ g. roll_at l xs n (omega arith) j g k i)) (eq-or-lt_of_le le)
-  where
-    le : j ≤ n
-    le = omega arith
-
-    room : 6 * n + 6 ≤ length (roll_of l xs n)
-    room = rw (roll_length l xs n) (omega arith)
-
-    last : j ≡ n → get_or (roll_of l xs (suc n)) (6 * j + k) 0 ≡ get_or (six_of (get_or xs j no_task)) k 0
-    last q =
-        subst (λ (m : ℕ). get_or (roll_of l xs (suc n)) (6 * m + k) 0 ≡ get_or (six_of (get_or xs m no_task)) k 0) (sym q)
-        (sets_at (roll_of l xs n) (6 * n) (six_of (get_or xs n no_task)) k i room)
-
-    before : (j < n → get_or (roll_of l xs n) (6 * j + k) 0 ≡ get_or (six_of (get_or xs j no_task)) k 0)
-        → j < n → get_or (roll_of l xs (suc n)) (6 * j + k) 0 ≡ get_or (six_of (get_or xs j no_task)) k 0
-    before again g = sets_other (roll_of l xs n) (6 * n) (six_of (get_or xs n no_task)) (6 * j + k) (omega arith) ∙ again g
-
-module _ (l : List ℕ) (n : ℕ) (x : Task) (rolled : Rolled l n) (few : n < 30) (room : 6 * n + 6 ≤ length l) (some : 1 ≤ x.period) (small : x.period < 65536) (time : x.execution < 65536) where
-  abbrev longer : List ℕ
-  longer = entered l (6 * n) x
-
-  same : (j : ℕ) → j < 6 * n → get_or longer j 0 ≡ get_or l j 0
-  unfolding entered
-  same j h = sets_other l (6 * n) (six_of x) j h
-
-  mine : (k : ℕ) → k < 6 → get_or longer (6 * n + k) 0 ≡ get_or (six_of x) k 0
-  unfolding entered
-  mine k h = sets_at l (6 * n) (six_of x) k h room
-
-  pub rolled_more : Rolled longer (n + 1)
-  unfolding entered
-  rolled_more = record { room = simp length-set (omega arith); few = omega arith; good = good }
-    where
-      good : (j : ℕ) → j < n + 1 → Good (get_or longer (6 * j) 0) (get_or longer (6 * j + 1) 0) (get_or longer (6 * j + 2) 0)
-      good j h = ⊎_elim new old (eq-or-lt_of_le le)
-        where
-          le : j ≤ n
-          le = omega arith
-
-          new : j ≡ n → Good (get_or longer (6 * j) 0) (get_or longer (6 * j + 1) 0) (get_or longer (6 * j + 2) 0)
-          new q =
-              let z : get_or longer (6 * n) 0 ≡ recip_of x.period = ap (λ (k : ℕ). get_or longer k 0) (sym (add-zero (6 * n))) ∙ mine 0 (omega arith) in
-              rw (q, z, mine 1 (omega arith), mine 2 (omega arith)) (record { some = some; small = small; time = time; inverse = refl })
-
-          old : j < n → Good (get_or longer (6 * j) 0) (get_or longer (6 * j + 1) 0) (get_or longer (6 * j + 2) 0)
-          old g = rw (same (6 * j) (omega arith), same (6 * j + 1) (omega arith), same (6 * j + 2) (omega arith)) (rolled.good j g)
-
-pub rolled_none : (l : List ℕ) → Rolled l 0
-rolled_none l = record { room = omega arith; few = omega arith; good = λ j h. absurd (omega arith) }
-
--- one task more of n
-module _ (l : List ℕ) (xs : List Task) (n : ℕ) (periodic : Periodic xs n) (room : 6 * n ≤ length l) (j : ℕ) (nums : List ℕ) (laid : nums ≡ roll_of l xs j) (rolled : Rolled nums j) (more : j < n) where
-  pub roll_room_lem : 6 * j + 6 ≤ length nums
-  roll_room_lem = rw (laid, roll_length l xs j) (omega arith)
-
-  pub roll_more : (x : Task) (exit : List ℕ) → x ≡ get_or xs j no_task → exit ≡ entered nums (6 * j) x → x.period < 65536 → x.execution < 65536 → (exit ≡ roll_of l xs (j + 1)) × Rolled exit (j + 1)
-  unfolding roll_of
-  roll_more x exit e q small time =
-      let some : 1 ≤ x.period = rw e (periodic.periods j more) in
-      (rw (add-one, q, e, laid), rw q (rolled_more nums j x rolled (omega (arith, periodic.few)) roll_room_lem some small time))
-
--- ---- terms
-
-pub count_more : (r : List ℕ) (p n : ℕ) → count_above r p (n + 1) ≡ count_above r p n + one (is_above r p n)
-unfolding count_above
-count_more r p n = sum_more (λ j. one (is_above r p j)) n
-
-pub one_le : (b : Bool) → one b ≤ 1
+pub one_le : (b : Bool) → cond b 1 0 ≤ 1
 one_le true = omega arith
 one_le false = omega arith
 
-pub count_le : (r : List ℕ) (p n : ℕ) → count_above r p n ≤ n
-unfolding count_above sum
-count_le r p zero = omega arith
-count_le r p (suc n) = omega (arith, count_le r p n, one_le (is_above r p n))
+-- those of a list that are above, from place i on
+pub count_more : (p : ℕ) (rs : List Rolled) (i : ℕ) (d : Rolled) → i < length rs → count_above p (drop i rs) ≡ cond (is_above p (get_or rs i d)) 1 0 + count_above p (drop (i + 1) rs)
+count_more p rs i d h = rw (drop_more rs i d h) (more (is_above p (get_or rs i d)))
+  where
+    more : (b : Bool) → length (cond b (get_or rs i d ∷ filter (is_above p) (drop (i + 1) rs)) (filter (is_above p) (drop (i + 1) rs))) ≡ cond b 1 0 + count_above p (drop (i + 1) rs)
+    more true = omega arith
+    more false = omega arith
 
-pub terms_length : (r : List ℕ) (p which : ℕ) (l : List ℕ) (n : ℕ) → length (terms_above r p which l n) ≡ length l
-unfolding terms_above placed
-terms_length r p which l zero = refl
-terms_length r p which l (suc n) = simp length-set (terms_length r p which l n)
+pub count_none : (p : ℕ) (rs : List Rolled) (i : ℕ) → length rs ≤ i → count_above p (drop i rs) ≡ 0
+count_none p rs i h = rw (drop_all i rs h) refl
 
-module _ (l : List ℕ) (n a b c d : ℕ) (ready : Ready l n) (few : n < 30) (room : 4 * n + 4 ≤ length l) where
-  abbrev more : List ℕ
-  more = placed l (4 * n) a b c d
+module _ {T : Type 0} (t : Rolled → T) (p : ℕ) where
+  -- the terms from place i on, one after the other
+  pub terms_more : (rs : List Rolled) (i c : ℕ) (l : List T) (d : Rolled) → i < length rs
+      → terms_from t p (drop i rs) c l ≡ terms_from t p (drop (i + 1) rs) (c + cond (is_above p (get_or rs i d)) 1 0) (set l c (t (get_or rs i d)))
+  unfolding terms_from
+  terms_more rs i c l d h = rw (drop_more rs i d h) refl
 
-  kept : (j : ℕ) → j < 4 * n → get_or more j 0 ≡ get_or l j 0
-  unfolding placed
-  kept j h = sets_other l (4 * n) (a ∷ b ∷ c ∷ d ∷ []) j h
+  pub terms_none : (rs : List Rolled) (i c : ℕ) (l : List T) → length rs ≤ i → terms_from t p (drop i rs) c l ≡ l
+  unfolding terms_from
+  terms_none rs i c l h = rw (drop_all i rs h) refl
 
-  last : (k : ℕ) → k < 4 → get_or more (4 * n + k) 0 ≡ get_or (a ∷ b ∷ c ∷ d ∷ []) k 0
-  unfolding placed
-  last k h = sets_at l (4 * n) (a ∷ b ∷ c ∷ d ∷ []) k h room
+  above_more : (b : Bool) (r : Rolled) (rs ys : List Rolled) (c : ℕ) (l zs : List T) → c < length l
+      → take (c + cond b 1 0 + length ys) zs ≡ take (c + cond b 1 0) (set l c (t r)) ++ map t ys
+      → take (c + length (cond b (r ∷ ys) ys)) zs ≡ take c l ++ map t (cond b (r ∷ ys) ys)
+  above_more true r rs ys c l zs h e = grind (arith, common_steps)
+  above_more false r rs ys c l zs h e = grind (arith, common_steps)
 
-  module _ (good : Good a b c) where
-    good_at : (j : ℕ) → j < n + 1 → Good (get_or more (4 * j) 0) (get_or more (4 * j + 1) 0) (get_or more (4 * j + 2) 0)
-    good_at j h = ⊎_elim new old (eq-or-lt_of_le le)
-      where
-        le : j ≤ n
-        le = omega arith
+  -- in front of them stand those of the tasks above
+  terms_front : (rs : List Rolled) (c : ℕ) (l : List T) → c + length rs ≤ length l
+      → take (c + count_above p rs) (terms_from t p rs c l) ≡ take c l ++ map t (filter (is_above p) rs)
+  unfolding terms_from
+  terms_front [] c l h = grind (arith, common_steps)
+  terms_front (r ∷ rs) c l h =
+      above_more (is_above p r) r rs (filter (is_above p) rs) c l _ (omega arith)
+      (terms_front rs (c + cond (is_above p r) 1 0) (set l c (t r)) (simp length-set (omega (arith, one_le (is_above p r)))))
 
-        new : j ≡ n → Good (get_or more (4 * j) 0) (get_or more (4 * j + 1) 0) (get_or more (4 * j + 2) 0)
-        new q = let z : get_or more (4 * n) 0 ≡ a = ap (λ (k : ℕ). get_or more k 0) (sym (add-zero (4 * n))) ∙ last 0 (omega arith) in rw (q, z, last 1 (omega arith), last 2 (omega arith)) good
+  -- so the first of what gathering leaves are their terms
+  pub gathered_front : (rs : List Rolled) (l : List T) (n : ℕ) → n ≡ count_above p rs → length rs ≤ length l → take n (gathered t p rs l) ≡ terms_above t p rs
+  gathered_front rs l n e h = let z = terms_front rs 0 l (omega arith) in rw (e, ← zero-add (count_above p rs)) z
 
-        old : j < n → Good (get_or more (4 * j) 0) (get_or more (4 * j + 1) 0) (get_or more (4 * j + 2) 0)
-        old g = rw (kept (4 * j) (omega arith), kept (4 * j + 1) (omega arith), kept (4 * j + 2) (omega arith)) (ready.good j g)
+cond_le : (b : Bool) (n m : ℕ) → n ≤ m → cond b n 0 ≤ m
+cond_le true n m h = h
+cond_le false n m h = omega arith
 
-    placed_ready : (b : Bool) → Ready more (n + one b)
-    unfolding placed
-    placed_ready true = record { room = simp length-set (omega arith); few = omega arith; good = good_at }
-    placed_ready false = record { room = simp length-set (omega arith); few = omega arith; good = λ j h. good_at j (omega arith) }
+pub left_small : (p : ℕ) (rs : List Rolled) → Sound rs → left_above p rs ≤ 1966050
+left_small p rs h = omega (arith, sum_by-le (left_of p) 65535 rs each, h.few)
+  where
+    each : All (λ r. left_of p r ≤ 65535) rs
+    each k d l = cond_le _ (get_or rs k d).old.jobs.execution 65535 (omega (arith, (h.good k d l).time))
 
-  module _ (g : ℕ → ℕ → ℕ → ℕ) where
-    share_kept : (j : ℕ) → j < n → share_of g more j ≡ share_of g l j
-    unfolding share_of
-    share_kept j h = rw (kept (4 * j + 1) (omega arith), kept (4 * j + 2) (omega arith), kept (4 * j + 3) (omega arith))
+-- ---- what the terms of those above are
 
-    share_last : share_of g more n ≡ g b c d
-    unfolding share_of
-    share_last = rw (last 1 (omega arith), last 2 (omega arith), last 3 (omega arith))
+-- a sum over them is a sum over the tasks
+pub sum_terms : {T : Type 0} (f : T → ℕ) (t : Rolled → T) (p : ℕ) (xs : List Task) → sum_of f (terms_above t p (map rolled xs)) ≡ sum_of (λ x. cond (ltb (rank x) p) (f (t (rolled x))) 0) xs
+unfolding sum_of
+sum_terms f t p [] = refl
+sum_terms f t p (x ∷ xs) = add (ltb (rank x) p) (all_above p (map rolled xs)) _ (sum_terms f t p xs)
+  where
+    add : (b : Bool) (rs : List Rolled) (n : ℕ) → sum_of f (map t rs) ≡ n → sum_of f (map t (cond b (rolled x ∷ rs) rs)) ≡ cond b (f (t (rolled x))) 0 + n
+    add true rs n e = omega arith
+    add false rs n e = omega arith
 
-    placed_sum : (b' : Bool) → sum (n + one b') (share_of g more) ≡ sum n (share_of g l) + cond b' (g b c d) 0
-    placed_sum true = omega (arith, sum_more (share_of g more) n, share_last, sum_eq n (share_of g more) (share_of g l) share_kept)
-    placed_sum false = omega (arith, ap (λ (k : ℕ). sum k (share_of g more)) (add-zero n), sum_eq n (share_of g more) (share_of g l) share_kept)
+pub sum_left : (p : ℕ) (xs : List Task) → left_above p (map rolled xs) ≡ sum_of (λ x. left_of p (rolled x)) xs
+unfolding sum_of
+sum_left p [] = refl
+sum_left p (x ∷ xs) = omega (arith, sum_left p xs, sum_by-cons (left_of p) (rolled x) (map rolled xs))
 
-pub rolled_less : (r : List ℕ) (j n : ℕ) → j ≤ n → Rolled r n → Rolled r j
-rolled_less r j n h q = record { room = omega (arith, q.room); few = omega (arith, q.few); good = λ i k. q.good i (omega arith) }
+-- they can be divided by, and are few
+module _ {T : Type 0} (t : Rolled → T) (p : ℕ) (rs : List Rolled) (sound : Sound rs) where
+  terms_few : length (terms_above t p rs) ≤ 30
+  terms_few = omega (arith, length-map (all_above p rs) t, length-filter_both (is_above p) (λ r. not (is_above p r)) (λ r. refl) rs, sound.few)
 
-module _ (r : List ℕ) (p which : ℕ) (l : List ℕ) where
-  -- room for one term more
-  fits : (n : ℕ) → 4 * suc n ≤ length l → 4 * count_above r p n + 4 ≤ length (terms_above r p which l n)
-  fits n h = rw (terms_length r p which l n) (omega (arith, count_le r p n))
+  terms_good : (jobs : T → Jobs) → ((r : Rolled) → jobs (t r) ≡ r.old.jobs) → All (λ e. Good (jobs e)) (terms_above t p rs)
+  terms_good jobs same = All-map (λ e. Good (jobs e)) t (all_above p rs) (All-filter (is_above p) (λ r. Good (jobs (t r))) rs (λ k d l. rw (same (get_or rs k d)) (sound.good k d l)))
 
-  pub terms_ready : (n : ℕ) → Rolled r n → 4 * n ≤ length l → Ready (terms_above r p which l n) (count_above r p n)
-  unfolding terms_above count_above sum
-  terms_ready zero h e = record { room = omega arith; few = omega arith; good = λ j i. absurd (omega arith) }
-  terms_ready (suc n) h e =
-      placed_ready (terms_above r p which l n) (count_above r p n) _ _ _ _ (terms_ready n (rolled_less r n (suc n) (omega arith) h) (omega arith))
-      (omega (arith, count_le r p n, h.few)) (fits n e) (h.good n (omega arith)) (is_above r p n)
-
-  -- sums over the terms are sums over the tasks above
-  pub terms_sum : (n : ℕ) → Rolled r n → 4 * n ≤ length l → (g : ℕ → ℕ → ℕ → ℕ) → sum (count_above r p n) (share_of g (terms_above r p which l n)) ≡ sum n (entry_of g r p which)
-  unfolding terms_above count_above sum entry_of
-  terms_sum zero h e g = refl
-  terms_sum (suc n) h e g =
-      let less : Rolled r n = rolled_less r n (suc n) (omega arith) h in
-      omega (
-        arith,
-        terms_sum n less (omega arith) g,
-        placed_sum (terms_above r p which l n) (count_above r p n) (get_or r (6 * n) 0) (get_or r (6 * n + 1) 0) (get_or r (6 * n + 2) 0) (get_or r (6 * n + which) 0) (terms_ready n less (omega arith)) (omega (arith, count_le r p n, h.few)) (fits n e) g (is_above r p n),
-      )
+pub gathered_ready : (s t : List Rolled) (p : ℕ) → Sound s → Sound t → (f : Rolled → Old) → ((r : Rolled) → (f r).jobs ≡ r.old.jobs) → Ready (terms_above f p s) (terms_above new_of p t)
+gathered_ready s t p h g f e =
+    record {
+      few_old = terms_few f p s h;
+      few_new = terms_few new_of p t g;
+      good_old = terms_good f p s h (λ x. x.jobs) e;
+      good_new = terms_good new_of p t g (λ x. x.jobs) (λ r. refl);
+    }

@@ -1,2 +1,3 @@
 pub mod Above
+pub mod Inverse
 pub mod Unique

@@ -1,72 +1,80 @@
--- The roll of a table, six numbers a task: reciprocal of T, T, C, mark (1 where aborted), Y, rank; and the terms that it gives of the tasks above a rank. Definitions only.
-use Rattle.std.specs.Prelude.{ℕ, zero, suc, ◌+◌, ◌*◌, ◌≤◌, ◌<◌, Bool, cond, List, [], ◌∷◌, length, get_or, eqb, ltb}
-use Rattle.std.proofs.lemmas.List.Edits.{sets}
-use Rattle.base.specs.Sums.{sum}
+-- Tasks rolled out, and the terms that they give of those above a rank. Definitions only.
+use Rattle.std.specs.Prelude.{ℕ, ◌+◌, ◌≡◌, ◌≤◌, Bool, true, false, not, ◌&&◌, cond, List, [], ◌∷◌, length, map, filter, set, All, sum_by, ltb}
 use Rattle.base.specs.Numbers.{recip_of}
 use Rattle.block.specs.declared.Task.{Task}
-use Rattle.block.specs.Format.{most_tasks}
-use Rattle.block.specs.Checks.{no_task}
+use Rattle.term.specs.declared.Old.{Old}
+use Rattle.term.specs.declared.New.{New}
 use Rattle.term.specs.Terms.{Good}
-use Rattle.window.specs.Order.{rank}
+use Rattle.block.specs.declared.Kind.{Kind}
+use Rattle.block.specs.declared.Kind.TheVariants.{Completed, Aborted, New as Entering}
+use Rattle.window.specs.Order.{kind_of, rank}
+use Rattle.above.specs.declared.Rolled.{Rolled}
 
-abbrev pub one : Bool → ℕ
-one b = cond b 1 0
+-- whether a kind is the aborted one
+abbrev pub is_aborted : Kind → Bool
+is_aborted Completed = false
+is_aborted Aborted = true
+is_aborted Entering = false
 
-abbrev pub mark_of : Task → ℕ
-mark_of x = one (eqb x.kind 1)
+-- a task, rolled out
+abbrev pub rolled : Task → Rolled
+rolled x =
+    record {
+      old = record { jobs = record { recip = recip_of x.period; period = x.period; execution = x.execution }; cut = is_aborted (kind_of x) };
+      offset = x.offset;
+      rank = rank x;
+    }
 
--- room for the roll of any table, and for the terms of any table
-abbrev pub roll_room : ℕ
-roll_room = 6 * most_tasks
+-- as terms: an old task, cut off where it is aborted; whole jobs; a new task
+abbrev pub old_of : Rolled → Old
+old_of r = r.old
 
-abbrev pub term_room : ℕ
-term_room = 4 * most_tasks
+abbrev pub whole_of : Rolled → Old
+whole_of r = record { jobs = r.old.jobs; cut = false }
 
--- n tasks that can be rolled
-pub record Periodic (xs : List Task) (n : ℕ) : Type 0 where
-  pub few : n ≤ 30
-  pub periods : (j : ℕ) → j < n → 1 ≤ (get_or xs j no_task).period
+abbrev pub new_of : Rolled → New
+new_of r = record { jobs = r.old.jobs; offset = r.offset }
 
--- the six numbers of a task, and the same written at a place
-abbrev pub six_of : Task → List ℕ
-six_of x = recip_of x.period ∷ x.period ∷ x.execution ∷ mark_of x ∷ x.offset ∷ rank x ∷ []
+-- tasks that can be rolled out
+pub record Periodic (xs : List Task) : Type 0 where
+  pub few : length xs ≤ 30
+  pub periods : All (λ x. 1 ≤ x.period) xs
 
-unfoldable pub entered : List ℕ → ℕ → Task → List ℕ
-entered l at x = sets l at (six_of x)
+-- rolled tasks whose periods may be divided by
+pub record Sound (rs : List Rolled) : Type 0 where
+  pub few : length rs ≤ 30
+  pub good : All (λ r. Good r.old.jobs) rs
 
--- the first n tasks, written over a list
-unfoldable pub roll_of : List ℕ → List Task → ℕ → List ℕ
-roll_of l xs zero = l
-roll_of l xs (suc n) = entered (roll_of l xs n) (6 * n) (get_or xs n no_task)
+-- r is above the rank p
+abbrev pub is_above : ℕ → Rolled → Bool
+is_above p r = ltb r.rank p
 
--- a roll of n tasks that can be divided by
-pub record Rolled (l : List ℕ) (n : ℕ) : Type 0 where
-  pub room : 6 * n ≤ length l
-  pub few : n ≤ 30
-  pub good : (j : ℕ) → j < n → Good (get_or l (6 * j) 0) (get_or l (6 * j + 1) 0) (get_or l (6 * j + 2) 0)
+-- those of a list that are, how many they are, and their terms
+abbrev pub all_above : ℕ → List Rolled → List Rolled
+all_above p rs = filter (is_above p) rs
 
--- task j of a roll is above the rank p
-abbrev pub is_above : List ℕ → ℕ → ℕ → Bool
-is_above l p j = ltb (get_or l (6 * j + 5) 0) p
+abbrev pub count_above : ℕ → List Rolled → ℕ
+count_above p rs = length (all_above p rs)
 
--- how many of the first n are
-unfoldable pub count_above : List ℕ → ℕ → ℕ → ℕ
-count_above l p n = sum n (λ j. one (is_above l p j))
+abbrev pub terms_above : {T : Type 0} → (Rolled → T) → ℕ → List Rolled → List T
+terms_above t p rs = map t (all_above p rs)
 
--- the four numbers of a term written at a place
-unfoldable pub placed : List ℕ → ℕ → ℕ → ℕ → ℕ → ℕ → List ℕ
-placed l at a b c d = sets l at (a ∷ b ∷ c ∷ d ∷ [])
+-- what is called gives t of each of these tasks
+abbrev pub Gives : {T : Type 0} → (Rolled → T → Type 0) → (Rolled → T) → List Rolled → Type 0
+Gives post t rs = All (λ r. (y : _) → post r y → y ≡ t r) rs
 
--- their terms, with the mark (which = 3) or Y (which = 4) as fourth number, written over the list l
-unfoldable pub terms_above : List ℕ → ℕ → ℕ → List ℕ → ℕ → List ℕ
-terms_above r p which l zero = l
-terms_above r p which l (suc n) =
-    placed (terms_above r p which l n) (4 * count_above r p n) (get_or r (6 * n) 0) (get_or r (6 * n + 1) 0) (get_or r (6 * n + 2) 0) (get_or r (6 * n + which) 0)
+-- the terms of all, written over a list from place c on, each over the one before it where that is not above
+unfoldable pub terms_from : {T : Type 0} → (Rolled → T) → ℕ → List Rolled → ℕ → List T → List T
+terms_from t p [] c l = l
+terms_from t p (r ∷ rs) c l = terms_from t p rs (c + cond (is_above p r) 1 0) (set l c (t r))
 
--- what task j adds where it is above, by any share of its T, C and fourth number
-unfoldable pub entry_of : (ℕ → ℕ → ℕ → ℕ) → List ℕ → ℕ → ℕ → ℕ → ℕ
-entry_of g r p which j = cond (is_above r p j) (g (get_or r (6 * j + 1) 0) (get_or r (6 * j + 2) 0) (get_or r (6 * j + which) 0)) 0
+-- what gathering leaves in a list
+abbrev pub gathered : {T : Type 0} → (Rolled → T) → ℕ → List Rolled → List T → List T
+gathered t p rs l = terms_from t p rs 0 l
 
--- C of each completed task above
-unfoldable pub left_above : List ℕ → ℕ → ℕ → ℕ
-left_above r p n = sum n (λ j. cond (is_above r p j) (cond (eqb (get_or r (6 * j + 3) 0) 0) (get_or r (6 * j + 2) 0) 0) 0)
+-- what a task leaves at the request to one of rank p: C where it is above and completed; and what all leave
+abbrev pub left_of : ℕ → Rolled → ℕ
+left_of p r = cond (is_above p r && not r.old.cut) r.old.jobs.execution 0
+
+abbrev pub left_above : ℕ → List Rolled → ℕ
+left_above p rs = sum_by (left_of p) rs

@@ -4,72 +4,59 @@
 
 #![tactic(auto)]
 
-ghost use Rattle.std.specs.Prelude.{◌≤◌};
-ghost use Rattle.tries.specs.Tries.{most_numbers};
-
 use block::{BLOCK_SIZE, LIST_SIZE, MOST_TASKS};
 use rows::ROW_SIZE;
-use std::io;
 use std::io::Write;
-use tries::{MOST_NUMBERS, number};
+use std::{array, io};
+use tries::{MOST_NUMBERS, NO_BYTE, number};
 
 // The largest report lent: a number more than any pair's rows need.
 const MOST_ROOM: usize = ROW_SIZE * 2 * MOST_TASKS + 1;
 
 // What stands in a report before it is lent.
 fn untouched() -> [u32; MOST_ROOM] {
-    let mut report = [0u32; MOST_ROOM];
-    for i in 0..report.len() {
-        report[i] = 1000 + i as u32;
-    }
-    report
+    array::from_fn(|i| 1000 + i as u32)
 }
 
 // ---- the lists
 
-// Where the numbers of the task that a word is of start: `and` goes on to the next task.
-fn task_by(name: u8, task: usize) -> usize
-    requires { task ≤ most_numbers }
-    ensures { result ≤ most_numbers }
-{
-    if name == b'a' {
-        return base::least(task + LIST_SIZE, MOST_NUMBERS);
-    }
-    task
-}
-
-// Puts a number where a list has such a place.
-fn put_number(list: &mut [u32], at: usize, x: u32) {
-    if at < list.len() {
-        list[at] = x;
+// Puts a number for the field that a letter names of the task that starts at a place of a list.
+fn put_field(list: &mut [u32], task: usize, name: u8, x: u32) {
+    if let Some(field) = tries::field(name) {
+        let at = task.saturating_add(field);
+        if at < list.len() {
+            list[at] = x;
+        }
     }
 }
 
-// The fields that a line names from word 4 on, each with its number; `and` goes on to the next task.
+// The fields that a line names from word 4 on, each with its number; `and` goes on to the next task. A line has no more words than bytes.
 fn put_words(list: &mut [u32], line: &[u8]) {
     let mut task: usize = 0;
     for k in 4..line.len() {
-        let name = tries::letter(line, k);
-        task = task_by(name, task);
-        put_number(list, task + tries::field(name), number(line, k + 1));
+        match tries::letter(line, k) {
+            Some(b'a') => task = task.saturating_add(LIST_SIZE),
+            Some(name) => put_field(list, task, name, number(line, k + 1)),
+            None => {}
+        }
     }
 }
 
 // The block of the list that a line says.
 fn block_of(line: &[u8], side: u32, mode: u16) -> [u8; BLOCK_SIZE] {
-    let mut list = [0u32; MOST_NUMBERS];
-    let mut block = tries::no_block();
+    let mut list = [0; MOST_NUMBERS];
+    let mut block = [NO_BYTE; BLOCK_SIZE];
     let size = tries::room(line, 1, LIST_SIZE, MOST_NUMBERS);
     put_words(&mut list, line);
-    writer::write(side, mode, &list[0..size], &mut block);
+    writer::write(side, mode, &list[..size], &mut block);
     block
 }
 
 // ---- the tries
 
 // A block as a try has it: damaged, where the line names its side.
-fn tried(line: &[u8], side: u32, block: [u8; BLOCK_SIZE]) -> [u8; BLOCK_SIZE] {
-    let mut bytes = block;
+fn tried(line: &[u8], side: u32, block: &[u8; BLOCK_SIZE]) -> [u8; BLOCK_SIZE] {
+    let mut bytes = *block;
     if number(line, 9) == side {
         tries::damage(&mut bytes, line);
     }
@@ -85,6 +72,7 @@ fn tell<W: Write>(
 ) -> io::Result<()> {
     let a = pair::analyse(old, new, report);
     says::say_outcome(to, a, tries::same_from(report, before, 0))?;
+    // The answer is the one C gets, in numbers.
     if a.code == 0 {
         says::say_numbers(to, b"", report)?;
     }
@@ -95,59 +83,37 @@ fn try_pair<W: Write>(to: &mut W, line: &[u8], old: &[u8], new: &[u8]) -> io::Re
     let before = untouched();
     let mut report = before;
     let room = tries::room(line, 2, ROW_SIZE, MOST_ROOM);
-    tell(to, old, new, &mut report[0..room], &before)
+    tell(to, old, new, &mut report[..room], &before)
 }
 
-fn try_blocks<W: Write>(to: &mut W, line: &[u8], p: &Pair) -> io::Result<()> {
-    let a = tried(line, 0, p.old);
-    let b = tried(line, 1, p.new);
+fn try_blocks<W: Write>(
+    to: &mut W,
+    line: &[u8],
+    old: &[u8; BLOCK_SIZE],
+    new: &[u8; BLOCK_SIZE],
+) -> io::Result<()> {
+    let a = tried(line, 0, old);
+    let b = tried(line, 1, new);
     let n = tries::length_of(line, 5, BLOCK_SIZE);
     let k = tries::length_of(line, 7, BLOCK_SIZE);
-    try_pair(to, line, &a[0..n], &b[0..k])
+    try_pair(to, line, &a[..n], &b[..k])
 }
 
 // ---- the lines
 
-// The blocks of the lists said last.
-#[derive(Clone, Copy)]
-struct Pair {
-    old: [u8; BLOCK_SIZE],
-    new: [u8; BLOCK_SIZE],
-}
-
-fn no_blocks() -> Pair {
-    let old = tries::no_block();
-    let new = tries::no_block();
-    Pair { old, new }
-}
-
-// What a line that starts with one of three letters does.
-fn heed<W: Write>(to: &mut W, line: &[u8], p: &mut Pair) -> io::Result<()> {
-    match line {
-        [b'o', ..] => p.old = block_of(line, 0, 1),
-        [b'n', ..] => p.new = block_of(line, 1, 2),
-        [b't', ..] => try_blocks(to, line, p)?,
-        _ => {}
-    }
-    Ok(())
-}
-
-fn try_line<W: Write>(to: &mut W, line: &[u8], p: &mut Pair) -> io::Result<()> {
-    says::say(to, line)?;
-    heed(to, line, p)?;
-    says::say(to, b"\n")
-}
-
-fn try_lines<W: Write>(to: &mut W, text: &[u8]) -> io::Result<()> {
-    let mut pair = no_blocks();
-    for line in text.split_inclusive(|b| *b == b'\n') {
-        try_line(to, line.strip_suffix(b"\n").unwrap_or(line), &mut pair)?;
-    }
-    Ok(())
-}
-
+// A list's line leaves its block for the tries behind it. A line that starts with none of the three letters is only printed.
 fn main(rt: HostRuntime) -> io::Result<()> {
-    let mut text = [0u8; 65536];
+    let mut text = [0; 65536];
     let n = streams::read_full(&mut rt.stdin(), &mut text)?;
-    try_lines(&mut rt.stdout(), &text[..n])
+    let mut old = [NO_BYTE; BLOCK_SIZE];
+    let mut new = old;
+    says::say_lines(&mut rt.stdout(), &text[..n], |to, line| {
+        match line {
+            [b'o', ..] => old = block_of(line, 0, 1),
+            [b'n', ..] => new = block_of(line, 1, 2),
+            [b't', ..] => try_blocks(to, line, &old, &new)?,
+            _ => {}
+        }
+        Ok(())
+    })
 }

@@ -2,7 +2,7 @@
 use Prim.Native.Nat.{ℕ, zero, suc, ◌+◌, ◌-◌, ◌≤◌, ◌<◌}
 use mathlib.Core.Path.{◌≡◌, refl, sym, ap, ◌∙◌}
 use mathlib.Core.Bool.{Bool, true, false}
-use mathlib.Core.Option.{Option, none, some}
+use Rattle.std.specs.Prelude.{Option, None, Some}
 use mathlib.Core.Logic.{◌⊎◌, inl, inr, ⊎_elim}
 use native.Mathlib.Omega.{arith}
 use native.Mathlib.Nat.{eq-or-lt_of_le, lt_of_not-le, eq-zero-or-pos, le_refl, not-suc-le-zero}
@@ -11,16 +11,16 @@ use lib.Dec.{leb}
 use Rattle.base.specs.Search.{first_where, closes, window_of, Climbs}
 use borrow.Author.Tests.{le-leb, lt-leb, leb-true, leb-false}
 
-pub where_at : (p : ℕ → Bool) (k n s : ℕ) → s ≤ k → k < s + n → ((u : ℕ) → s ≤ u → u < k → p u ≡ false) → p k ≡ true → first_where p n s ≡ some k
+pub where_at : (p : ℕ → Bool) (k n s : ℕ) → s ≤ k → k < s + n → ((u : ℕ) → s ≤ u → u < k → p u ≡ false) → p k ≡ true → first_where p n s ≡ Some k
 unfolding first_where
 where_at p k zero s h l b m = absurd (omega arith)
 where_at p k (suc n) s h l b m =
     ⊎_elim
-    (λ e. let f : p s ≡ true = rw e m in rw f (ap some e))
+    (λ e. let f : p s ≡ true = rw e m in rw f (ap Some e))
     (λ g. rw (b s (omega arith) g) (where_at p k n (suc s) g (omega arith) (λ u a c. b u (omega arith) c) m))
     (eq-or-lt_of_le h)
 
-pub where_none : (p : ℕ → Bool) (n s : ℕ) → ((u : ℕ) → s ≤ u → u < s + n → p u ≡ false) → first_where p n s ≡ none
+pub where_none : (p : ℕ → Bool) (n s : ℕ) → ((u : ℕ) → s ≤ u → u < s + n → p u ≡ false) → first_where p n s ≡ None
 unfolding first_where
 where_none p zero s b = refl
 where_none p (suc n) s b = rw (b s (omega arith) (omega arith)) (where_none p n (suc s) (λ u a c. b u (omega arith) (omega arith)))
@@ -38,20 +38,11 @@ module _ (f : ℕ → ℕ) (limit : ℕ) where
   pub climb_start : (c : ℕ) → 1 ≤ c → c ≤ limit → ((u : ℕ) → c ≤ f u) → Climbs f limit c
   climb_start c h l b = record { first = h; within = l; up = b c; unmet = λ u g. omega (arith, b u) }
 
-  pub climb_next : (t d : ℕ) → Rises f → Climbs f limit t → d ≡ f t → d ≤ limit → Climbs f limit d
-  climb_next t d r k e l =
-      record {
-        first = omega (arith, k.up, k.first);
-        within = l;
-        up = omega (arith, k.up, r t d (omega (arith, k.up)));
-        unmet = λ u g. rise f t r k.unmet u (omega arith);
-      }
-
-  pub climb_at : (t d : ℕ) → Climbs f limit t → d ≡ f t → d ≡ t → window_of f limit ≡ some t
+  pub climb_at : (t d : ℕ) → Climbs f limit t → d ≡ f t → d ≡ t → window_of f limit ≡ Some t
   unfolding window_of
   climb_at t d k e m = where_at _ t limit 1 k.first (omega (arith, k.within)) (λ u a l. lt-leb (f u) u (k.unmet u l)) (le-leb (f t) t (omega arith))
 
-  pub climb_late : (t d : ℕ) → Rises f → Climbs f limit t → d ≡ f t → limit < d → window_of f limit ≡ none
+  pub climb_late : (t d : ℕ) → Rises f → Climbs f limit t → d ≡ f t → limit < d → window_of f limit ≡ None
   unfolding window_of
   climb_late t d r k e l = where_none _ limit 1 (λ u a h. lt-leb (f u) u (rise f t r k.unmet u (omega arith)))
 
@@ -67,20 +58,20 @@ pub record Found (p : ℕ → Bool) (n s k : ℕ) : Type 0 where
   pub under : k < s + n
   pub none_before : (u : ℕ) → s ≤ u → u < k → p u ≡ false
 
-pub where_found : (p : ℕ → Bool) (n s k : ℕ) → first_where p n s ≡ some k → Found p n s k
+pub where_found : (p : ℕ → Bool) (n s k : ℕ) → first_where p n s ≡ Some k → Found p n s k
 unfolding first_where
 where_found p zero s k e = let z : ◌≡◌ {A = ℕ} 0 1 = cc in absurd (omega arith)
 where_found p (suc n) s k e = ⊎_elim now (later (where_found p n (suc s) k)) (either (p s))
   where
     now : p s ≡ true → Found p (suc n) s k
     now h =
-        let q : some s ≡ some k = sym (rw h) ∙ e in
+        let q : Some s ≡ Some k = sym (rw h) ∙ e in
         let r : s ≡ k = cc in
         record { holds = ap p (sym r) ∙ h; from = omega arith; under = omega arith; none_before = λ u a l. absurd (omega arith) }
 
-    later : (first_where p n (suc s) ≡ some k → Found p n (suc s) k) → p s ≡ false → Found p (suc n) s k
+    later : (first_where p n (suc s) ≡ Some k → Found p n (suc s) k) → p s ≡ false → Found p (suc n) s k
     later again h =
-        let q : first_where p n (suc s) ≡ some k = rw h at e in
+        let q : first_where p n (suc s) ≡ Some k = rw h at e in
         let f = again q in
         record {
           holds = f.holds;
@@ -92,7 +83,7 @@ where_found p (suc n) s k e = ⊎_elim now (later (where_found p n (suc s) k)) (
 -- a number at which p holds: the first one is no later
 pub record Within (o : Option ℕ) (k : ℕ) : Type 0 where
   pub at : ℕ
-  pub is : o ≡ some at
+  pub is : o ≡ Some at
   pub by : at ≤ k
 
 pub where_within : (p : ℕ → Bool) (n s k : ℕ) → s ≤ k → k < s + n → p k ≡ true → Within (first_where p n s) k
@@ -117,7 +108,7 @@ pub record Window (f : ℕ → ℕ) (limit w : ℕ) : Type 0 where
   pub unmet : (u : ℕ) → 1 ≤ u → u < w → u < f u
 
 module _ (f : ℕ → ℕ) (limit : ℕ) where
-  pub window_found : (w : ℕ) → window_of f limit ≡ some w → Window f limit w
+  pub window_found : (w : ℕ) → window_of f limit ≡ Some w → Window f limit w
   unfolding window_of
   window_found w e =
       let k = where_found (closes f) limit 1 w e in

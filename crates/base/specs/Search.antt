@@ -1,11 +1,10 @@
 -- The first number at which a test holds, and the least t at which a demand closes. Definitions only.
-use Rattle.std.specs.Prelude.{ℕ, zero, suc, ◌≤◌, ◌<◌, Bool, cond, leb}
-use Rattle.std.proofs.Math.Option.{Option, none, some}
+use Rattle.std.specs.Prelude.{ℕ, zero, suc, ◌≤◌, ◌<◌, Bool, cond, leb, Option, None, Some}
 
 -- the first of the n numbers s, s + 1, .. at which p holds
 unfoldable pub first_where : (ℕ → Bool) → ℕ → ℕ → Option ℕ
-first_where p zero s = none
-first_where p (suc n) s = cond (p s) (some s) (first_where p n (suc s))
+first_where p zero s = None
+first_where p (suc n) s = cond (p s) (Some s) (first_where p n (suc s))
 
 -- a demand closes at t: it is at most t there
 abbrev pub closes : (ℕ → ℕ) → ℕ → Bool

@@ -3,70 +3,45 @@
 
 #![tactic(auto)]
 
-ghost use Rattle.std.specs.Prelude.{◌≡◌, ◌+◌, ◌<◌, ◌≤◌, ◌++◌, length, take, OnOk};
+ghost use Rattle.std.specs.Prelude.{◌++◌, OnOk};
 ghost use Rattle.std.specs.Io.KnownBytes.{Appends};
-ghost use Rattle.render.specs.Printed.{printed, most_text};
+ghost use Rattle.render.specs.Printed.{printed};
 ghost use Rattle.batch.specs.Dot.{dot_line};
 
 use std::io;
 use std::io::{ErrorKind, Read, Write};
 
-fn wide(x: u8) -> usize
-    ensures { result < 256 }
-{
-    x as usize
-}
-
-fn length_of(head: &[u8; 4]) -> usize {
-    wide(head[0]) + 256 * (wide(head[1]) + 256 * (wide(head[2]) + 256 * wide(head[3])))
-}
-
-// Reads n bytes to the front of a buffer, and answers whether they came: an input that ends before is no error.
-fn read_part<R: Read>(from: &mut R, buf: &mut [u8], n: usize) -> io::Result<bool>
-    requires { n ≤ length buf.old }
-{
-    match from.read_exact(&mut buf[0..n]) {
+// Fills a buffer, and answers whether the bytes came: an input that ends before is no error.
+fn read_part<R: Read>(from: &mut R, part: &mut [u8]) -> io::Result<bool> {
+    match from.read_exact(part) {
         Ok(()) => Ok(true),
         Err(e) if e.kind() == ErrorKind::UnexpectedEof => Ok(false),
         Err(e) => Err(e),
     }
 }
 
-// Puts the lines of an input and a line with a dot at the front of room for any, and answers their length.
-fn put_lines(input: &[u8], out: &mut [u8]) -> usize
-    requires { length out.old ≡ most_text + 2 }
-    ensures bound { result ≤ length out.new }
-    ensures text { take result out.new ≡ printed input.now ++ dot_line }
-{
-    let none: [u64; 0] = [];
-    let end = render::render(input, out);
-    lines::put_line(out, end, b".", &none)
-}
-
 // Writes the lines of an input and a line with a dot.
 fn answer<W: Write>(to: &mut W, input: &[u8]) -> io::Result<()>
     ensures { OnOk result (Appends (W.contents to.old) (W.contents to.new) (printed input.now ++ dot_line)) }
 {
-    let mut out = [0u8; render::MOST_TEXT + 2];
-    let all = put_lines(input, &mut out);
-    to.write_all(&out[0..all])
+    render::write_text(to, input)?;
+    to.write_all(b".\n")
 }
 
 // Reads and answers one input, and says whether to go on.
 fn answer_one<R: Read, W: Write>(from: &mut R, to: &mut W) -> io::Result<bool> {
     let mut head = [0u8; 4];
     let mut input = [0u8; 2000];
-    if !read_part(from, &mut head, 4)? {
+    if !read_part(from, &mut head)? {
         return Ok(false);
     }
-    let length = length_of(&head);
-    if 2000 < length {
+    let Some(part) = input.get_mut(..u32::from_le_bytes(head) as usize) else {
+        return Ok(false);
+    };
+    if !read_part(from, part)? {
         return Ok(false);
     }
-    if !read_part(from, &mut input, length)? {
-        return Ok(false);
-    }
-    answer(to, &input[0..length])?;
+    answer(to, part)?;
     Ok(true)
 }
 

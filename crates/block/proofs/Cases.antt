@@ -1,11 +1,13 @@
 -- The cases of the block hold of the definitions that the contracts cite.
+use Rattle.std.specs.Prelude.{Ok, Err}
 use Prim.Native.Nat.{ℕ, ◌+◌, ◌*◌, ◌-◌}
 use mathlib.Core.Path.{◌≡◌, refl}
 use mathlib.Core.List.{[], ◌∷◌, ◌++◌, map, flat_map}
 use lib.ListN.{length, replicate}
 use Rattle.base.specs.Lists.{part, every, any, up_to}
 use Rattle.block.specs.Format.{block_size, check_place, check_words, mark_first, mark_second}
-use Rattle.block.specs.Answers.{answer, done, first_of, answer_of}
+use Rattle.block.specs.declared.Code.TheVariants.{Done, BlockLength, Check, Mark, Head, Rule, Double, UnusedRoom, Short, OldLate, NewLate, ListLength}
+use Rattle.block.specs.Answers.{number_of, answer, done, first_of, answer_of}
 use Rattle.block.specs.Record.{task_by, word_bytes, task_of, record_of, task_from, numbers_of}
 use Rattle.block.specs.Checks.{kind_on, task_checks, alike}
 use Rattle.block.specs.Block.{mode_number, word_sum, check_of, headed, seal_checks, head_checks, block_checks, block_verdict, reading_of, read_of, list_head, list_verdict, head_of, body_of, block_of, wrote, refused, write_of, reply_of, left_of, holds, spoilt, filled, table_of, loaded}
@@ -57,6 +59,11 @@ pub shown_write : (write_of 1 513 shown_numbers 512 ≡ wrote (block_of 1 513 (s
 unfolding write_of list_verdict list_head first_of up_to every any alike kind_on task_checks task_from
 shown_write = (refl, refl, refl, refl, refl, refl)
 
+-- the codes of the paper's table
+pub shown_codes : map number_of (Done ∷ BlockLength ∷ Check ∷ Mark ∷ Head ∷ Rule ∷ Double ∷ UnusedRoom ∷ Short ∷ OldLate ∷ NewLate ∷ ListLength ∷ [])
+    ≡ 0 ∷ 1 ∷ 2 ∷ 3 ∷ 4 ∷ 5 ∷ 6 ∷ 7 ∷ 8 ∷ 9 ∷ 10 ∷ 11 ∷ []
+shown_codes = refl
+
 -- that block read back; of two tasks the answer tells as record how many there are
 pub shown_read : (read_of 1 (block_of 1 513 (shown_task ∷ [])) (replicate 8 9) ≡ record { reply = answer 0 1 1 513; list = shown_numbers ++ (9 ∷ []) })
     × ((filled 1 (holds 513 (shown_task ∷ shown_task ∷ [])) (replicate 14 9)).reply ≡ answer 0 1 2 513)
@@ -69,6 +76,8 @@ pub shown_room : ((filled 1 (holds 513 (shown_task ∷ [])) (replicate (length s
 unfolding numbers_of flat_map
 shown_room = (refl, refl, refl)
 
--- the places of a table behind its tasks are zero, thirty in all; a table without tasks and mode 0 stand beside a refusal
-pub shown_table : ((table_of (shown_task ∷ [])).tasks ≡ shown_task ∷ replicate 29 (task_by 0 0 0 0 0 0 0)) × (loaded (spoilt (answer 3 0 0 0)) ≡ record { answer = answer 3 0 0 0; mode = 0; table = table_of [] })
-shown_table = (refl, refl)
+-- the places of a table behind its tasks are zero, thirty in all; the loader gives the mode number and the table, or the refusal
+pub shown_table : ((table_of (shown_task ∷ [])).tasks ≡ shown_task ∷ replicate 29 (task_by 0 0 0 0 0 0 0))
+    × (loaded (holds 513 (shown_task ∷ [])) ≡ Ok (record { mode = 513; table = table_of (shown_task ∷ []) }))
+    × (loaded (spoilt (answer 3 0 0 0)) ≡ Err (answer 3 0 0 0))
+shown_table = (refl, refl, refl)

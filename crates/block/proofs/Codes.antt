@@ -9,22 +9,21 @@ use lib.ListN.{length, get_or, take}
 use Rattle.base.specs.Lists.{up_to, part}
 use Rattle.block.specs.declared.Task.{Task}
 use Rattle.block.specs.declared.Answer.{Answer}
-use Rattle.block.specs.declared.Verdict.{Verdict}
-use Rattle.block.specs.declared.Verdict.TheVariants.{Passed, Refused}
+use Rattle.block.specs.Answers.{Verdict, refusal, refuse, first_of}
+use Rattle.std.specs.Prelude.{Ok, Err}
 use Rattle.block.specs.Format.{block_size, record_size, zero_place, check_place, list_size, most_tasks}
-use Rattle.block.specs.Answers.{refusal, refuse, first_of}
 use Rattle.block.specs.Checks.{kind_on, task_checks, record_checks, borne_in, double_check, no_task}
 use Rattle.block.specs.Record.{word_at, all_zero, task_of, task_from, fits}
 use Rattle.block.specs.Block.{record_part, tasks_in, unused_room, count_byte, check_of, marked, headed, seal_checks, head_checks, each_record, each_double, body_checks, room_check, block_verdict, spoilt, reading, reading_of, numbers_part, tasks_of, list_head, list_verdict, block_of, wrote, written, write_of, reply_of, left_of}
 
 -- the answer that a verdict refuses with has one
 abbrev pub Coded : Verdict → Type 0
-Coded v = (a : Answer) → v ≡ Refused a → 1 ≤ a.code
+Coded v = (a : Answer) → v ≡ Err a → 1 ≤ a.code
 
-pub coded_passed : Coded Passed
+pub coded_passed : Coded (Ok tt)
 coded_passed a e = let z : ◌≡◌ {A = ℕ} 0 1 = cc in absurd (omega arith)
 
-pub coded_refused : (b : Answer) → 1 ≤ b.code → Coded (Refused b)
+pub coded_refused : (b : Answer) → 1 ≤ b.code → Coded (Err b)
 coded_refused b h a e = let q : b ≡ a = cc in subst (λ (x : Answer). 1 ≤ x.code) q h
 
 pub coded_if : (t : Bool) (b : Answer) → 1 ≤ b.code → Coded (refuse t b)
@@ -37,14 +36,14 @@ coded_none = coded_passed
 
 coded_before : (v : Verdict) (vs : List Verdict) → Coded v → Coded (first_of vs) → Coded (first_of (v ∷ vs))
 unfolding first_of
-coded_before Passed vs p q = q
-coded_before (Refused a) vs p q = p
+coded_before (Ok u) vs p q = q
+coded_before (Err a) vs p q = p
 
 pub coded_after : (xs ys : List Verdict) → Coded (first_of xs) → Coded (first_of ys) → Coded (first_of (xs ++ ys))
 unfolding first_of
 coded_after [] ys p q = q
-coded_after (Passed ∷ xs) ys p q = coded_after xs ys p q
-coded_after (Refused a ∷ xs) ys p q = p
+coded_after (Ok u ∷ xs) ys p q = coded_after xs ys p q
+coded_after (Err a ∷ xs) ys p q = p
 
 pub coded_each : (f : ℕ → Verdict) → ((k : ℕ) → Coded (f k)) → (n : ℕ) → Coded (first_of (up_to f n))
 unfolding up_to
@@ -114,8 +113,8 @@ module _ (side : ℕ) where
   reading_coded b a e = go (block_verdict side b) (block_coded b) e
     where
       go : (v : Verdict) → Coded v → reading v b ≡ spoilt a → 1 ≤ a.code
-      go Passed h q = let z : ◌≡◌ {A = ℕ} 0 1 = cc in absurd (omega arith)
-      go (Refused x) h q = h a (cc)
+      go (Ok u) h q = let z : ◌≡◌ {A = ℕ} 0 1 = cc in absurd (omega arith)
+      go (Err x) h q = h a (cc)
 
   -- the writer answers 0 exactly if it wrote
   pub write_coded : (mode : ℕ) (l : List ℕ) (room : ℕ) (lent : List ℕ) → (reply_of (write_of side mode l room)).code ≡ 0 → write_of side mode l room ≡ wrote (left_of (write_of side mode l room) lent)
@@ -124,5 +123,5 @@ module _ (side : ℕ) where
     where
       go : (v : Verdict) → Coded v → (reply_of (written v (block_of side mode (tasks_of l)))).code ≡ 0
           → written v (block_of side mode (tasks_of l)) ≡ wrote (left_of (written v (block_of side mode (tasks_of l))) lent)
-      go Passed h q = refl
-      go (Refused a) h q = absurd (omega (arith, h a refl))
+      go (Ok u) h q = refl
+      go (Err a) h q = absurd (omega (arith, h a refl))

@@ -10,11 +10,10 @@ use lib.Seq.{get_or-take, length-take-le}
 use borrow.Author.Tests.{eqb-true, eqb-false, ltb-true, ltb-false, eq-eqb, ne_eqb, not-false}
 use Rattle.base.proofs.Lists.{up_length, up_at, any_not, or_left, or_right}
 use Rattle.block.specs.declared.Task.{Task}
-use Rattle.block.specs.declared.Verdict.{Verdict}
-use Rattle.block.specs.declared.Verdict.TheVariants.{Passed, Refused}
+use Rattle.block.specs.Answers.{Verdict, refusal, first_of}
+use Rattle.std.specs.Prelude.{Ok, Err}
 use Rattle.block.specs.Format.{block_size, most_tasks}
 use Rattle.block.specs.Record.{task_of}
-use Rattle.block.specs.Answers.{refusal, first_of}
 use Rattle.block.specs.Checks.{kind_on, task_checks, record_checks, alike, double_check, no_task}
 use Rattle.block.specs.Block.{record_part, tasks_in, count_byte, mode_number, head_checks, each_record, each_double, body_checks, block_verdict, holds, reading, reading_of}
 use Rattle.block.specs.Legal.{Rules, Legal}
@@ -23,8 +22,8 @@ use Rattle.block.proofs.Heads.{head_length, head_headed, headed_side, headed_cou
 
 -- ---- the rules of a task that passes
 
-module _ (side k : ℕ) (x : Task) (passed : first_of (task_checks side k x) ≡ Passed) where
-  at : (i : ℕ) → get_or (task_checks side k x) i Passed ≡ Passed
+module _ (side k : ℕ) (x : Task) (passed : first_of (task_checks side k x) ≡ Ok tt) where
+  at : (i : ℕ) → get_or (task_checks side k x) i (Ok tt) ≡ Ok tt
   at i = first_at (task_checks side k x) passed i
 
   kind_passed : kind_on side x.kind ≡ true
@@ -53,7 +52,7 @@ module _ (side k : ℕ) (x : Task) (passed : first_of (task_checks side k x) ≡
 
 -- ---- no two alike
 
-module _ (side : ℕ) (xs : List Task) (passed : first_of (each_double side xs) ≡ Passed) where
+module _ (side : ℕ) (xs : List Task) (passed : first_of (each_double side xs) ≡ Ok tt) where
   unlike : (j k : ℕ) → j < k → k < length xs → alike (get_or xs j no_task) (get_or xs k no_task) ≡ false
   unlike j k h l =
       rw (get_or-take k xs j no_task h) at (any_not (λ y. alike y (get_or xs k no_task)) (take k xs) j no_task
@@ -72,12 +71,12 @@ module _ (side : ℕ) (xs : List Task) (passed : first_of (each_double side xs) 
 pub tasks_length : (b : List ℕ) (n : ℕ) → length (tasks_in b n) ≡ n
 tasks_length b n = up_length (λ k. task_of (record_part b k)) n
 
-module _ (side : ℕ) (b : List ℕ) (passed : block_verdict side b ≡ Passed) where
-  pub block_head : first_of (head_checks side b) ≡ Passed
+module _ (side : ℕ) (b : List ℕ) (passed : block_verdict side b ≡ Ok tt) where
+  pub block_head : first_of (head_checks side b) ≡ Ok tt
   unfolding block_verdict
   block_head = first_left (head_checks side b) (body_checks side b (count_byte b)) passed
 
-  pub block_body : first_of (body_checks side b (count_byte b)) ≡ Passed
+  pub block_body : first_of (body_checks side b (count_byte b)) ≡ Ok tt
   unfolding block_verdict
   block_body = first_right (head_checks side b) (body_checks side b (count_byte b)) passed
 
@@ -90,14 +89,14 @@ module _ (side : ℕ) (b : List ℕ) (passed : block_verdict side b ≡ Passed) 
   pub block_count : count_byte b ≤ most_tasks
   block_count = headed_count side b (head_headed side b block_head)
 
-  pub block_records : first_of (each_record side b (count_byte b)) ≡ Passed
+  pub block_records : first_of (each_record side b (count_byte b)) ≡ Ok tt
   block_records = first_left _ (each_double side (tasks_in b (count_byte b))) (first_left _ _ block_body)
 
-  pub block_doubles : first_of (each_double side (tasks_in b (count_byte b))) ≡ Passed
+  pub block_doubles : first_of (each_double side (tasks_in b (count_byte b))) ≡ Ok tt
   block_doubles = first_right (each_record side b (count_byte b)) _ (first_left _ _ block_body)
 
   -- each task passes the rules of its own
-  pub block_task : (xs : List Task) → xs ≡ tasks_in b (count_byte b) → (k : ℕ) → k < length xs → first_of (task_checks side k (get_or xs k no_task)) ≡ Passed
+  pub block_task : (xs : List Task) → xs ≡ tasks_in b (count_byte b) → (k : ℕ) → k < length xs → first_of (task_checks side k (get_or xs k no_task)) ≡ Ok tt
   block_task xs e k h =
       let l : k < count_byte b = omega (arith, ap length e, tasks_length b (count_byte b)) in
       rw (e, up_at (λ k. task_of (record_part b k)) (count_byte b) k no_task l)
@@ -114,7 +113,7 @@ module _ (side : ℕ) (b : List ℕ) (passed : block_verdict side b ≡ Passed) 
 -- ---- a block that holds tasks
 
 pub record Held (side : ℕ) (b : List ℕ) (mode : ℕ) (xs : List Task) : Type 0 where
-  pub passed : block_verdict side b ≡ Passed
+  pub passed : block_verdict side b ≡ Ok tt
   pub mode_is : mode ≡ mode_number b
   pub tasks_are : xs ≡ tasks_in b (count_byte b)
 
@@ -123,8 +122,8 @@ unfolding reading_of
 reading_held side b mode xs e = go (block_verdict side b) refl e
   where
     go : (v : Verdict) → block_verdict side b ≡ v → reading v b ≡ holds mode xs → Held side b mode xs
-    go Passed p q = record { passed = p; mode_is = cc; tasks_are = cc }
-    go (Refused a) p q = let z : ◌≡◌ {A = ℕ} 0 1 = cc in absurd (omega arith)
+    go (Ok u) p q = record { passed = p; mode_is = cc; tasks_are = cc }
+    go (Err a) p q = let z : ◌≡◌ {A = ℕ} 0 1 = cc in absurd (omega arith)
 
 pub reading_legal : (side mode : ℕ) (b : List ℕ) (xs : List Task) → reading_of side b ≡ holds mode xs → Legal side xs
 reading_legal side mode b xs e =

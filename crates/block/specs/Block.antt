@@ -1,16 +1,14 @@
 -- A block: what it says, when it is refused, what reading it leaves in a lent list, what writing leaves in a lent block. Definitions only.
-use Rattle.std.specs.Prelude.{ℕ, zero, suc, ◌+◌, ◌*◌, ◌/◌, ◌%◌, ◌-◌, Bool, cond, not, ◌&&◌, length, take, drop, replicate, eqb, leb, ltb}
+use Rattle.std.specs.Prelude.{ℕ, zero, suc, ◌+◌, ◌*◌, ◌/◌, ◌%◌, ◌-◌, Bool, cond, not, ◌&&◌, length, take, drop, replicate, eqb, leb, ltb, Result, Ok, Err}
 use mathlib.Core.List.{List, [], ◌∷◌, ◌++◌, flat_map}
 use Rattle.base.specs.Lists.{part, up_to}
 use Rattle.block.specs.declared.Task.{Task}
 use Rattle.block.specs.declared.Table.{Table}
 use Rattle.block.specs.declared.Loaded.{Loaded}
 use Rattle.block.specs.declared.Answer.{Answer}
-use Rattle.block.specs.declared.Verdict.{Verdict}
-use Rattle.block.specs.declared.Verdict.TheVariants.{Passed, Refused}
 use Rattle.block.specs.Format.{block_size, head_size, record_size, most_tasks, check_place, check_words, mark_first, mark_second, record_place, list_size}
 use Rattle.block.specs.Record.{byte_at, half_at, word_at, half_bytes, word_bytes, all_zero, task_of, record_of, task_from, numbers_of}
-use Rattle.block.specs.Answers.{answer, done, refusal, refuse, first_of}
+use Rattle.block.specs.Answers.{Verdict, answer, done, refusal, refuse, first_of}
 use Rattle.block.specs.Checks.{record_checks, number_checks, double_check, no_task}
 
 -- ---- the layout
@@ -94,8 +92,8 @@ pub data Reading : Type 0 where
   spoilt : Answer → Reading
 
 abbrev pub reading : Verdict → List ℕ → Reading
-reading Passed b = holds (mode_number b) (tasks_in b (count_byte b))
-reading (Refused a) b = spoilt a
+reading (Ok u) b = holds (mode_number b) (tasks_in b (count_byte b))
+reading (Err a) b = spoilt a
 
 unfoldable pub reading_of : ℕ → List ℕ → Reading
 reading_of side b = reading (block_verdict side b) b
@@ -129,12 +127,12 @@ table_of xs = record { tasks = xs ++ replicate (most_tasks - length xs) no_task;
 abbrev pub listed : Table → List Task
 listed t = take t.count t.tasks
 
--- what the loader gives: the answer, the mode number and the table, which is empty on a refusal
-abbrev pub loaded : Reading → Loaded
-loaded (spoilt a) = record { answer = a; mode = 0; table = table_of [] }
-loaded (holds mode xs) = record { answer = done; mode = mode; table = table_of xs }
+-- what the loader gives: the mode number and the table, or the refusal
+abbrev pub loaded : Reading → Result Loaded Answer
+loaded (spoilt a) = Err a
+loaded (holds mode xs) = Ok (record { mode = mode; table = table_of xs })
 
-unfoldable pub loaded_of : ℕ → List ℕ → Loaded
+unfoldable pub loaded_of : ℕ → List ℕ → Result Loaded Answer
 loaded_of side b = loaded (reading_of side b)
 
 -- ---- writing: codes 1, 11, 4, 5, 6 in order
@@ -181,8 +179,8 @@ pub data Written : Type 0 where
   refused : Answer → Written
 
 abbrev pub written : Verdict → List ℕ → Written
-written Passed b = wrote b
-written (Refused a) b = refused a
+written (Ok u) b = wrote b
+written (Err a) b = refused a
 
 unfoldable pub write_of : ℕ → ℕ → List ℕ → ℕ → Written
 write_of side mode l room = written (list_verdict side l room) (block_of side mode (tasks_of l))

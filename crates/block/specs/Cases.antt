@@ -1,12 +1,10 @@
 -- Cases of the block and of the list, worked out by hand from document 01: a task in its three shapes, and verdicts with their whole answers. Definitions only.
-use Rattle.std.specs.Prelude.{ℕ, ◌+◌, ◌*◌, ◌-◌, List, [], ◌∷◌, ◌++◌, get_or, take, replicate}
+use Rattle.std.specs.Prelude.{ℕ, ◌+◌, ◌*◌, ◌-◌, List, [], ◌∷◌, ◌++◌, get_or, take, replicate, Ok}
 use Rattle.block.specs.declared.Task.{Task}
 use Rattle.block.specs.declared.Answer.{Answer}
-use Rattle.block.specs.declared.Verdict.{Verdict}
-use Rattle.block.specs.declared.Verdict.TheVariants.{Passed}
 use Rattle.block.specs.Format.{mark_first, mark_second, list_size}
 use Rattle.block.specs.Record.{task_by}
-use Rattle.block.specs.Answers.{answer, first_of, answer_of}
+use Rattle.block.specs.Answers.{Verdict, answer, first_of, answer_of}
 use Rattle.block.specs.Checks.{task_checks, record_checks, number_checks, double_check}
 use Rattle.block.specs.Block.{seal_checks, head_checks, room_check, body_checks, block_verdict, list_head, list_verdict}
 
@@ -53,16 +51,16 @@ of_entry side k kind p n T Y = first_of (number_checks side k (kind ∷ p ∷ n 
 
 -- the checks of a head one by one: a length, a check word, a mark, and bytes 2, 3, 6 and 7
 abbrev pub of_length : ℕ → ℕ → ℕ → Verdict
-of_length side k n = get_or (seal_checks side k (replicate n 0)) 0 Passed
+of_length side k n = get_or (seal_checks side k (replicate n 0)) 0 (Ok tt)
 
 abbrev pub of_check : ℕ → ℕ → List ℕ → Verdict
-of_check side k b = get_or (seal_checks side k b) 1 Passed
+of_check side k b = get_or (seal_checks side k b) 1 (Ok tt)
 
 abbrev pub of_mark : ℕ → ℕ → ℕ → Verdict
-of_mark wanted x y = get_or (head_checks wanted (x ∷ y ∷ [])) 2 Passed
+of_mark wanted x y = get_or (head_checks wanted (x ∷ y ∷ [])) 2 (Ok tt)
 
 abbrev pub of_head : ℕ → ℕ → ℕ → ℕ → ℕ → Verdict
-of_head wanted s n x y = get_or (head_checks wanted (0 ∷ 0 ∷ s ∷ n ∷ 1 ∷ 2 ∷ x ∷ y ∷ [])) 3 Passed
+of_head wanted s n x y = get_or (head_checks wanted (0 ∷ 0 ∷ s ∷ n ∷ 1 ∷ 2 ∷ x ∷ y ∷ [])) 3 (Ok tt)
 
 -- the second of two tasks by number and priority
 abbrev pub second : ℕ → ℕ → ℕ → ℕ → ℕ → Verdict

@@ -2,10 +2,9 @@
 use Rattle.std.specs.Prelude.{ℕ, Bool, cond, not, ◌&&◌, ◌||◌, List, [], ◌∷◌, ◌++◌, get_or, take, eqb, ltb}
 use Rattle.base.specs.Lists.{part, any}
 use Rattle.block.specs.declared.Task.{Task}
-use Rattle.block.specs.declared.Verdict.{Verdict}
 use Rattle.block.specs.Format.{record_size, zero_place}
 use Rattle.block.specs.Record.{task_by, task_of, task_from, fits, all_zero}
-use Rattle.block.specs.Answers.{refusal, refuse}
+use Rattle.block.specs.Answers.{Verdict, refusal, refuse}
 
 -- an old block (side 0) has kinds 0 and 1, a new one kind 2
 unfoldable pub kind_on : ℕ → ℕ → Bool

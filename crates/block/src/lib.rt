@@ -23,6 +23,14 @@ pub const MARK_SECOND: u8 = 0x54;
 
 pub const LIST_SIZE: usize = 7;
 
+// What becomes of a task's jobs at the request. A task has it as the number of its record.
+#[derive(Clone, Copy)]
+pub enum Kind {
+    Completed,
+    Aborted,
+    New,
+}
+
 // A task, as its record says it.
 #[repr(C)]
 #[derive(Clone, Copy)]
@@ -43,7 +51,24 @@ pub struct Table {
     pub count: usize,
 }
 
-// What every public function answers.
+// What an answer says, each code with the paper's number.
+#[derive(Clone, Copy)]
+pub enum Code {
+    Done = 0,
+    BlockLength = 1,
+    Check = 2,
+    Mark = 3,
+    Head = 4,
+    Rule = 5,
+    Double = 6,
+    UnusedRoom = 7,
+    Short = 8,
+    OldLate = 9,
+    NewLate = 10,
+    ListLength = 11,
+}
+
+// What every public function answers, in numbers, as C reads it.
 #[repr(C)]
 #[derive(Clone, Copy)]
 pub struct Answer {
@@ -54,16 +79,27 @@ pub struct Answer {
 }
 
 // What a check says: nothing is wrong, or the answer that refuses.
-#[derive(Clone, Copy)]
-pub enum Verdict {
-    Passed,
-    Refused(Answer),
-}
+pub type Verdict = Result<(), Answer>;
 
-// What the loader gives: the answer, and the block's mode number and table where nothing is refused.
+// The answer of what is done, where nothing else is said.
+pub const DONE: Answer = Answer {
+    code: Code::Done as u32,
+    side: 2,
+    record: 0,
+    detail: 0,
+};
+
+// The refusal of a list or a report that is too short.
+pub const SHORT: Answer = Answer {
+    code: Code::Short as u32,
+    side: 2,
+    record: 0,
+    detail: 0,
+};
+
+// What the loader gives of a block that is not refused: its mode number and its table.
 #[derive(Clone, Copy)]
 pub struct Loaded {
-    pub answer: Answer,
     pub mode: u16,
     pub table: Table,
 }

@@ -1,9 +1,5 @@
 -- What an earlier record bears, record by record.
-use Prim.Native.Nat.{ℕ, ◌+◌, ◌<◌}
-use mathlib.Core.Path.{◌≡◌, refl, ap, ◌∙◌}
-use mathlib.Core.Bool.{true, false}
-use native.Mathlib.Numerals.{add-one}
-use native.Mathlib.Omega.{arith}
+use Rattle.std.proofs.Common.{ℕ, ◌≡◌, ◌<◌, ◌+◌, true, false, ap, ◌∙◌, add-one, arith}
 use Rattle.base.specs.Lists.{up_to, any}
 use Rattle.base.proofs.Lists.{up_length, up_at, up_take, any_more, any_at}
 use Rattle.block.specs.declared.Task.{Task}
@@ -12,10 +8,6 @@ use Rattle.block.specs.Checks.{alike, borne_in, double_check, no_task}
 
 -- tasks f 0, f 1, ..
 module _ (f : ℕ → Task) where
-  pub borne_none : (x : Task) → borne_in x (up_to f 0) ≡ false
-  unfolding up_to any
-  borne_none x = refl
-
   pub borne_more : (x : Task) (j : ℕ) → borne_in x (up_to f j) ≡ false → alike (f j) x ≡ false → borne_in x (up_to f (j + 1)) ≡ false
   unfolding up_to any
   borne_more x j e h = rw (add-one, any_more, e, h)

@@ -2,94 +2,76 @@
 
 #![tactic(auto)]
 
-ghost use Rattle.std.specs.Prelude.{◌≡◌, ◌<◌, ◌≤◌, length};
-ghost use Rattle.block.specs.Format.{block_size, most_tasks};
+ghost use Rattle.std.specs.Prelude.{◌≡◌, ◌<◌, Ok, Err, MatchResult};
+ghost use Rattle.block.specs.Format.{most_tasks};
 ghost use Rattle.block.specs.Record.{task_of};
 ghost use Rattle.block.specs.Answers.{first_of};
 ghost use Rattle.block.specs.Checks.{borne_in};
-ghost use Rattle.block.specs.Block.{record_part, tasks_in, each_record, each_double, body_checks, block_verdict};
+ghost use Rattle.block.specs.Block.{record_part, tasks_in, count_byte, each_record, each_double, body_checks, block_verdict};
 
-use block::{CHECK_PLACE, HEAD_SIZE, RECORD_SIZE, Verdict};
+use block::{Answer, CHECK_PLACE, Code, HEAD_SIZE, RECORD_SIZE, Verdict};
+use records::Records;
 
-// The first of the first n records that breaks a rule.
-fn check_records(block: &[u8], side: u32, n: usize) -> Verdict
-    requires { (length block.now ≡ block_size) × (n ≤ most_tasks) }
-    ensures { result ≡ first_of (each_record side block.now n) }
+// The first record that breaks a rule.
+fn check_records(records: Records, side: u32) -> Verdict
+    ensures { result ≡ first_of (each_record side records.entry.block.now records.entry.count) }
 {
-    let mut k: usize = 0;
-    while k < n {
-        let at = HEAD_SIZE + RECORD_SIZE * k;
-        if let Verdict::Refused(a) = records::check_record(
-            &block[at..at + RECORD_SIZE],
-            side,
-            k as u32,
-        ) {
-            return Verdict::Refused(a);
-        }
-        k += 1;
-    }
-    Verdict::Passed
+    rules::first_refusal(
+        records.count,
+        |k| records::check_record(records.part(k), side, k as u32),
+    )
 }
 
 // Whether an earlier record bears the number or the priority of record k.
-fn is_borne(block: &[u8], k: usize) -> bool
-    requires { (length block.now ≡ block_size) × (k < most_tasks) }
-    ensures { result ≡ borne_in (task_of (record_part block.now k)) (tasks_in block.now k) }
+#[tactic(auto, using(crate::proofs::Doubles::borne_more), unfolding(base::specs::Lists::up_to, base::specs::Lists::any))]
+fn is_borne(records: Records, k: usize) -> bool
+    requires { k < most_tasks }
+    ensures { result ≡ borne_in (task_of (record_part records.entry.block.now k)) (tasks_in records.entry.block.now k) }
 {
-    let at = HEAD_SIZE + RECORD_SIZE * k;
-    let mut j: usize = 0;
-    while j < k {
-        let before = HEAD_SIZE + RECORD_SIZE * j;
-        if records::are_alike(
-            &block[before..before + RECORD_SIZE],
-            &block[at..at + RECORD_SIZE],
-        ) {
+    let own = records.part(k);
+    // A loop, since any over the range takes a tenth longer.
+    for j in 0..k {
+        if records::are_alike(records.part(j), own) {
             return true;
         }
-        j += 1;
     }
     false
 }
 
-// The first of the first n records that bears what an earlier one bears.
-pub fn check_doubles(block: &[u8], side: u32, n: usize) -> Verdict
-    requires { (length block.now ≡ block_size) × (n ≤ most_tasks) }
-    ensures { result ≡ first_of (each_double side (tasks_in block.now n)) }
+// The first record that bears what an earlier one bears. Out of line, so that the machine keeps its loop to itself: in line a block takes a third longer.
+#[inline(never)]
+pub fn check_doubles(records: Records, side: u32) -> Verdict
+    ensures { result ≡ first_of (each_double side (tasks_in records.entry.block.now records.entry.count)) }
 {
-    let mut k: usize = 0;
-    while k < n {
-        if is_borne(block, k) {
-            return rules::refused(6, side, k as u32);
-        }
-        k += 1;
-    }
-    Verdict::Passed
+    rules::first_refusal(
+        records.count,
+        |k| rules::refuse(is_borne(records, k), Code::Double, side, k as u32),
+    )
 }
 
-// Codes 5 to 7 over n records.
-fn check_body(block: &[u8], side: u32, n: usize) -> Verdict
-    requires { (length block.now ≡ block_size) × (n ≤ most_tasks) }
-    ensures { result ≡ first_of (body_checks side block.now n) }
+// Codes 5 to 7.
+#[tactic(auto, using(block::proofs::Verdicts::first_on, block::proofs::Verdicts::first_stop, block::proofs::Verdicts::first_last))]
+fn check_body(records: Records, side: u32) -> Verdict
+    ensures { result ≡ first_of (body_checks side records.entry.block.now records.entry.count) }
 {
-    if let Verdict::Refused(a) = check_records(block, side, n) {
-        return Verdict::Refused(a);
-    }
-    if let Verdict::Refused(a) = check_doubles(block, side, n) {
-        return Verdict::Refused(a);
-    }
-    let room = HEAD_SIZE + RECORD_SIZE * n;
-    if words::all_zero(&block[room..CHECK_PLACE]) {
-        return Verdict::Passed;
-    }
-    rules::refused(7, side, 0)
+    check_records(records, side)?;
+    check_doubles(records, side)?;
+    let room = &records.block[HEAD_SIZE + RECORD_SIZE * records.count..CHECK_PLACE];
+    rules::refuse(!words::all_zero(room), Code::UnusedRoom, side, 0)
 }
 
-// Codes 1 to 7 in order.
-pub fn check_block(block: &[u8], side: u32) -> Verdict
-    ensures { result ≡ block_verdict side block.now }
+// The records of a block, once codes 1 to 7 pass in order.
+#[tactic(auto, using(block::proofs::Verdicts::first_on, block::proofs::Verdicts::first_stop, block::proofs::Heads::head_length), unfolding(block::specs::Block::block_verdict))]
+pub fn records_of(block: &[u8], side: u32) -> Result<Records, Answer>
+    ensures { MatchResult result
+        (λ r. (block_verdict side block.now ≡ Ok tt) × (r.block.now ≡ block.now) × (r.count ≡ count_byte block.now))
+        (λ a. block_verdict side block.now ≡ Err a) }
 {
-    if let Verdict::Refused(a) = heads::check_head(block, side) {
-        return Verdict::Refused(a);
-    }
-    check_body(block, side, base::count(block[3]))
+    heads::check_head(block, side)?;
+    let records = Records {
+        block,
+        count: usize::from(block[3]),
+    };
+    check_body(records, side)?;
+    Ok(records)
 }

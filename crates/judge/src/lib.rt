@@ -2,94 +2,133 @@
 
 #![tactic(auto)]
 
-ghost use Rattle.std.specs.Prelude.{◌≡◌, ◌*◌, ◌≤◌, length};
-ghost use Rattle.window.specs.Order.{completed, new, kind_of, rank};
+ghost use Rattle.std.specs.Prelude.{◌≡◌, ◌≤◌};
+ghost use Rattle.term.specs.Terms.{Ready};
+ghost use Rattle.block.specs.declared.Kind.TheVariants.{Completed, Aborted, New as Entering};
+ghost use Rattle.window.specs.Order.{kind_of};
 ghost use Rattle.window.specs.Demand.{own_time};
-ghost use Rattle.above.specs.Roll.{Rolled, count_above, terms_above};
-ghost use Rattle.row.specs.Flat.{flat_steady};
-ghost use Rattle.row.specs.Row.{aborted_row};
+ghost use Rattle.above.specs.Roll.{Sound, whole_of, new_of};
 ghost use Rattle.judge.specs.From.{Rowed};
 
-use block::Task;
+use above::Rolled;
+use block::{Kind, MOST_TASKS, Task};
 use row::Judged;
+use term::{Demand, Jobs, New, Old};
+use window::Windows;
 
-// The row of a completed task i, from the rolls of both tables; the buffers are for its terms.
-fn completed(
-    before: &mut [u64],
-    after: &mut [u64],
-    olds: &[u64],
-    n: usize,
-    news: &[u64],
-    k: usize,
-    i: Task,
-) -> Judged
-    requires rolled { Rolled olds.now n × Rolled news.now k × (4 * n ≤ length before.old) × (4 * k ≤ length after.old) }
-    requires bound { (1 ≤ own_time i) × (own_time i ≤ i.deadline) }
-    ensures { Rowed completed olds.now n news.now k i before.old after.old before.new after.new result }
-{
-    let p = above::rank_of(i);
-    let a = above::gather(before, olds, n, p, 3);
-    let b = above::gather(after, news, k, p, 4);
-    row::completed_row(
-        before,
-        a,
-        after,
-        b,
-        above::own_time(i),
-        base::wider(i.deadline),
-    )
+// Room for the terms of one row, of tasks before the request and after it.
+#[derive(Clone, Copy)]
+pub struct Room {
+    pub before: [Old; MOST_TASKS],
+    pub after: [New; MOST_TASKS],
 }
 
-// The row of an aborted task i.
-fn aborted(before: &mut [u64], olds: &[u64], n: usize, i: Task) -> Judged
-    requires rolled { Rolled olds.now n × (4 * n ≤ length before.old) }
-    requires bound { (1 ≤ own_time i) × (own_time i ≤ i.deadline) }
-    ensures { (before.new ≡ terms_above olds.now (rank i) 4 before.old n) × (result ≡ aborted_row (flat_steady before.new (count_above olds.now (rank i) n) (own_time i) i.deadline)) }
-{
-    let a = above::gather(before, olds, n, above::rank_of(i), 4);
-    row::aborted_row(before, a, above::own_time(i), base::wider(i.deadline))
+// A task that is to be judged, with the rolls of both tables.
+#[derive(Clone, Copy)]
+pub struct Judging<'a> {
+    pub old: &'a [Rolled],
+    pub new: &'a [Rolled],
+    pub task: Task,
+    pub ghost sound_old: { Sound old.now },
+    pub ghost sound_new: { Sound new.now },
+    pub ghost some: { 1 ≤ own_time task },
+    pub ghost fits: { own_time task ≤ task.deadline },
 }
 
-// The row of a new task i.
-fn entering(
-    before: &mut [u64],
-    after: &mut [u64],
-    olds: &[u64],
-    n: usize,
-    news: &[u64],
-    k: usize,
-    i: Task,
-) -> Judged
-    requires rolled { Rolled olds.now n × Rolled news.now k × (4 * k ≤ length before.old) × (4 * k ≤ length after.old) }
-    requires bound { (1 ≤ own_time i) × (own_time i ≤ i.deadline) }
-    ensures { Rowed new olds.now n news.now k i before.old after.old before.new after.new result }
+// A task in whole jobs.
+fn whole(r: Rolled) -> Old
+    ensures { result ≡ whole_of r }
 {
-    let p = above::rank_of(i);
-    let left = above::left(olds, n, p);
-    let a = above::gather(before, news, k, p, 3);
-    let b = above::gather(after, news, k, p, 4);
-    row::new_row(before, a, after, b, left, i)
-}
-
-// The row of i.
-pub fn row_of(
-    before: &mut [u64],
-    after: &mut [u64],
-    olds: &[u64],
-    n: usize,
-    news: &[u64],
-    k: usize,
-    i: Task,
-) -> Judged
-    requires rolled { Rolled olds.now n × Rolled news.now k × (4 * n ≤ length before.old) × (4 * k ≤ length before.old) × (4 * k ≤ length after.old) }
-    requires bound { (1 ≤ own_time i) × (own_time i ≤ i.deadline) }
-    ensures { Rowed (kind_of i) olds.now n news.now k i before.old after.old before.new after.new result }
-{
-    if i.kind == 0 {
-        return completed(before, after, olds, n, news, k, i);
+    Old {
+        jobs: r.old.jobs,
+        cut: false,
     }
-    if i.kind == 1 {
-        return aborted(before, olds, n, i);
+}
+
+// A new task, its first job at its offset.
+fn from_offset(r: Rolled) -> New
+    ensures { result ≡ new_of r }
+{
+    New {
+        jobs: r.old.jobs,
+        offset: r.offset,
     }
-    entering(before, after, olds, n, news, k, i)
+}
+
+impl Room {
+    const NO_JOBS: Jobs = Jobs {
+        recip: 0,
+        period: 0,
+        execution: 0,
+    };
+
+    pub const EMPTY: Room = Room {
+        before: [Old {
+            jobs: Room::NO_JOBS,
+            cut: false,
+        }; MOST_TASKS],
+        after: [New {
+            jobs: Room::NO_JOBS,
+            offset: 0,
+        }; MOST_TASKS],
+    };
+}
+
+impl<'a> Judging<'a> {
+    // Its windows, with these tasks above it.
+    fn windows<'t>(self, old: &'t [Old], new: &'t [New]) -> Windows<'t>
+        requires { Ready old.now new.now }
+        ensures { (result.demand.own ≡ own_time self.entry.task) × (result.demand.old.now ≡ old.now) × (result.demand.new.now ≡ new.now) × (result.limit ≡ self.entry.task.deadline) }
+    {
+        Windows {
+            demand: Demand {
+                own: above::own_time(self.task),
+                old,
+                new,
+            },
+            limit: u64::from(self.task.deadline),
+        }
+    }
+
+    // The row of a completed task.
+    fn completed(self, room: &mut Room) -> Judged
+        ensures { Rowed Completed self.entry.old.now self.entry.new.now self.entry.task room.old room.new result }
+    {
+        let p = above::rank_of(self.task);
+        let n = above::gather(&mut room.before, self.old, p, |r| r.old);
+        let k = above::gather(&mut room.after, self.new, p, from_offset);
+        row::completed_row(self.windows(&room.before[..n], &room.after[..k]))
+    }
+
+    // The row of an aborted task.
+    fn aborted(self, room: &mut Room) -> Judged
+        ensures { Rowed Aborted self.entry.old.now self.entry.new.now self.entry.task room.old room.new result }
+    {
+        let p = above::rank_of(self.task);
+        let n = above::gather(&mut room.before, self.old, p, whole);
+        row::aborted_row(self.windows(&room.before[..n], &[]))
+    }
+
+    // The row of a new task.
+    fn entering(self, room: &mut Room) -> Judged
+        ensures { Rowed Entering self.entry.old.now self.entry.new.now self.entry.task room.old room.new result }
+    {
+        let p = above::rank_of(self.task);
+        let left = above::left(self.old, p);
+        let n = above::gather(&mut room.before, self.new, p, whole);
+        let k = above::gather(&mut room.after, self.new, p, from_offset);
+        let windows = self.windows(&room.before[..n], &room.after[..k]);
+        row::new_row(windows, left, self.task)
+    }
+
+    // Its row, by its kind.
+    pub fn row_of(self, room: &mut Room) -> Judged
+        ensures { Rowed (kind_of self.entry.task) self.entry.old.now self.entry.new.now self.entry.task room.old room.new result }
+    {
+        match window::kind_of(self.task) {
+            Kind::Completed => self.completed(room),
+            Kind::Aborted => self.aborted(room),
+            Kind::New => self.entering(room),
+        }
+    }
 }

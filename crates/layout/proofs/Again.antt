@@ -11,7 +11,7 @@ use borrow.Author.Tests.{eqb-true, not-false}
 use Rattle.base.specs.Lists.{part, up_to}
 use Rattle.base.proofs.Lists.{up_length, up_at, up_list, every_at, flat_one, and_left, and_right}
 use Rattle.block.specs.declared.Task.{Task}
-use Rattle.block.specs.declared.Verdict.TheVariants.{Passed}
+use Rattle.std.specs.Prelude.{Ok}
 use Rattle.block.specs.Format.{block_size, head_size, record_size, zero_place, most_tasks, check_place, check_words, record_place, mark_first, mark_second}
 use Rattle.block.specs.Record.{byte_at, half_at, word_at, word_bytes, all_zero, task_of, record_of}
 use Rattle.block.specs.Answers.{refusal, refuse, first_of}
@@ -66,8 +66,8 @@ module _ (r : List ℕ) (long : length r ≡ record_size) (bytes : (i : ℕ) →
 
 -- ---- a block's bytes, from its tasks
 
-module _ (side : ℕ) (b : List ℕ) (bytes : Bytes b) (passed : block_verdict side b ≡ Passed) where
-  heads : first_of (head_checks side b) ≡ Passed
+module _ (side : ℕ) (b : List ℕ) (bytes : Bytes b) (passed : block_verdict side b ≡ Ok tt) where
+  heads : first_of (head_checks side b) ≡ Ok tt
   heads = block_head side b passed
 
   long : length b ≡ block_size

@@ -13,7 +13,7 @@ use Rattle.base.proofs.Lists.{up_list, every_at, and_left, and_right}
 use Rattle.block.specs.declared.Task.{Task}
 use Rattle.block.specs.Format.{list_size}
 use Rattle.block.specs.Record.{all_below, fits, task_from, numbers_of}
-use Rattle.block.specs.declared.Verdict.TheVariants.{Passed}
+use Rattle.std.specs.Prelude.{Ok}
 use Rattle.block.specs.Answers.{refusal, refuse, first_of}
 use Rattle.block.specs.Checks.{task_checks, number_checks}
 use Rattle.block.specs.Block.{numbers_part, each_entry}
@@ -74,15 +74,15 @@ module _ (l : List ℕ) (fit : fits l ≡ true) (long : length l ≡ list_size) 
 
 -- ---- the entries of a list that passes
 
-module _ (side : ℕ) (l : List ℕ) (n : ℕ) (passed : first_of (each_entry side l n) ≡ Passed) where
-  entry_passed : (k : ℕ) → k < n → first_of (number_checks side k (numbers_part l k)) ≡ Passed
+module _ (side : ℕ) (l : List ℕ) (n : ℕ) (passed : first_of (each_entry side l n) ≡ Ok tt) where
+  entry_passed : (k : ℕ) → k < n → first_of (number_checks side k (numbers_part l k)) ≡ Ok tt
   entry_passed k h = each_at (λ k. first_of (number_checks side k (numbers_part l k))) n k h passed
 
   pub entry_fits : (k : ℕ) → k < n → fits (numbers_part l k) ≡ true
   entry_fits k h = not-false _ (refuse_passed _ (refusal 5 side k) (first_at (number_checks side k (numbers_part l k)) (entry_passed k h) 0))
 
   -- its task passes too
-  pub entry_task : (k : ℕ) → k < n → first_of (task_checks side k (task_from (numbers_part l k))) ≡ Passed
+  pub entry_task : (k : ℕ) → k < n → first_of (task_checks side k (task_from (numbers_part l k))) ≡ Ok tt
   entry_task k h =
       first_right (refuse (not (fits (numbers_part l k))) (refusal 5 side k) ∷ []) (task_checks side k (task_from (numbers_part l k))) (entry_passed k h)
 
@@ -91,6 +91,6 @@ module _ (side : ℕ) (l : List ℕ) (n : ℕ) (passed : first_of (each_entry si
       entry_small (numbers_part l k) (entry_fits k h) (simp (length-take, length-drop) (omega arith))
 
 -- a small task that passes
-pub entry_passes : (side k : ℕ) (x : Task) → Small x → first_of (task_checks side k x) ≡ Passed → first_of (number_checks side k (numbers_of x)) ≡ Passed
+pub entry_passes : (side k : ℕ) (x : Task) → Small x → first_of (task_checks side k x) ≡ Ok tt → first_of (number_checks side k (numbers_of x)) ≡ Ok tt
 unfolding first_of
 entry_passes side k x s e = rw (small_fits x s, entry_says x) e

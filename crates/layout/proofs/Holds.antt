@@ -9,7 +9,7 @@ use lib.Seq.{take_at, drop_at, get_or-append-add}
 use borrow.Author.Tests.{eq-eqb, le-leb}
 use Rattle.base.specs.Lists.{part, every}
 use Rattle.block.specs.declared.Task.{Task}
-use Rattle.block.specs.declared.Verdict.TheVariants.{Passed}
+use Rattle.std.specs.Prelude.{Ok}
 use Rattle.block.specs.Format.{record_size, zero_place, most_tasks, check_place, check_words, record_place}
 use Rattle.block.specs.Record.{word_at, word_bytes, all_zero, task_of, record_of}
 use Rattle.block.specs.Answers.{refusal, refuse, first_of}
@@ -61,7 +61,7 @@ module _ (side mode : ℕ) (xs : List Task) (sided : side ≤ 1) (legal : Legal 
   unfolding block_of body_of head_of
   mode_right h = omega arith
 
-  heads_pass : first_of (head_checks side (block_of side mode xs)) ≡ Passed
+  heads_pass : first_of (head_checks side (block_of side mode xs)) ≡ Ok tt
   heads_pass = head_passes side _ (seal_passes side 0 _ (eq-eqb _ _ (block_long side mode xs few)) (eq-eqb _ _ check_right)) mark_right head_right
 
   room_zero : all_zero (unused_room (block_of side mode xs) (length xs)) ≡ true
@@ -73,15 +73,15 @@ module _ (side mode : ℕ) (xs : List Task) (sided : side ≤ 1) (legal : Legal 
       rw (append_assoc front (replicate {A = ℕ} size 0) rest, drop_at front (replicate size 0 ++ rest) (record_place (length xs)) (front_long (head_of side mode (length xs)) xs (head_long side mode (length xs))), take_at (replicate size 0) rest size (length-replicate size 0))
       (zeros_zero size)
 
-  records_pass : first_of (each_record side (block_of side mode xs) (length xs)) ≡ Passed
+  records_pass : first_of (each_record side (block_of side mode xs) (length xs)) ≡ Ok tt
   records_pass = each_all (λ k. first_of (record_checks side k (record_part (block_of side mode xs) k))) (length xs) (λ k l. rw (record_written side mode xs k l) (one k (get_or xs k no_task) (small k l) (legal_task side xs legal sided k l)))
     where
-      one : (k : ℕ) (x : Task) → Small x → first_of (task_checks side k x) ≡ Passed → first_of (record_checks side k (record_of x)) ≡ Passed
-      one k x s e = first_last (task_checks side k (task_of (record_of x))) (refuse (not (all_zero (part (record_of x) zero_place record_size))) (refusal 5 side k)) Passed (rw (record_says x s) e) (ap (λ (t : Bool). refuse (not t) (refusal 5 side k)) (ends x))
+      one : (k : ℕ) (x : Task) → Small x → first_of (task_checks side k x) ≡ Ok tt → first_of (record_checks side k (record_of x)) ≡ Ok tt
+      one k x s e = first_last (task_checks side k (task_of (record_of x))) (refuse (not (all_zero (part (record_of x) zero_place record_size))) (refusal 5 side k)) (Ok tt) (rw (record_says x s) e) (ap (λ (t : Bool). refuse (not t) (refusal 5 side k)) (ends x))
 
-  block_reads : block_verdict side (block_of side mode xs) ≡ Passed
+  block_reads : block_verdict side (block_of side mode xs) ≡ Ok tt
   unfolding block_verdict
-  block_reads = first_on (head_checks side (block_of side mode xs)) _ heads_pass ∙ rw count_right (first_last (each_record side (block_of side mode xs) (length xs) ++ each_double side (tasks_in (block_of side mode xs) (length xs))) _ Passed (first_on (each_record side (block_of side mode xs) (length xs)) _ records_pass ∙ rw (tasks_written side mode xs small) (legal_doubles side xs legal)) (ap (λ (t : Bool). refuse (not t) (refusal 7 side 0)) room_zero))
+  block_reads = first_on (head_checks side (block_of side mode xs)) _ heads_pass ∙ rw count_right (first_last (each_record side (block_of side mode xs) (length xs) ++ each_double side (tasks_in (block_of side mode xs) (length xs))) _ (Ok tt) (first_on (each_record side (block_of side mode xs) (length xs)) _ records_pass ∙ rw (tasks_written side mode xs small) (legal_doubles side xs legal)) (ap (λ (t : Bool). refuse (not t) (refusal 7 side 0)) room_zero))
 
   pub block_holds : mode < 65536 → reading_of side (block_of side mode xs) ≡ holds mode xs
   unfolding reading_of

@@ -11,7 +11,7 @@ use borrow.Author.Tests.{eqb-true, leb-true, not-false, eq-eqb, le-leb}
 use Rattle.base.specs.Lists.{up_to}
 use Rattle.base.proofs.Lists.{up_length, up_at, up_same, up_list, flat_length, flat_one, flat_part, and_left, and_right}
 use Rattle.block.specs.declared.Task.{Task}
-use Rattle.block.specs.declared.Verdict.TheVariants.{Passed}
+use Rattle.std.specs.Prelude.{Ok}
 use Rattle.block.specs.Format.{block_size, list_size, most_tasks}
 use Rattle.block.specs.Record.{task_from, numbers_of}
 use Rattle.block.specs.Answers.{refusal, first_of}
@@ -54,8 +54,8 @@ list_again l (suc n) h =
 
 -- ---- a head that passes
 
-module _ (side size room : ℕ) (passed : first_of (list_head side size room) ≡ Passed) where
-  at : (k : ℕ) → get_or (list_head side size room) k Passed ≡ Passed
+module _ (side size room : ℕ) (passed : first_of (list_head side size room) ≡ Ok tt) where
+  at : (k : ℕ) → get_or (list_head side size room) k (Ok tt) ≡ Ok tt
   at k = first_at (list_head side size room) passed k
 
   pub list_room : room ≡ block_size
@@ -79,24 +79,24 @@ module _ (side size room : ℕ) (passed : first_of (list_head side size room) �
 -- ---- a list that passes
 
 -- the tasks of entries that pass are small
-pub list_small : (side : ℕ) (l : List ℕ) (n : ℕ) → length l ≡ list_size * n → first_of (each_entry side l n) ≡ Passed → AllSmall (tasks_from l n)
+pub list_small : (side : ℕ) (l : List ℕ) (n : ℕ) → length l ≡ list_size * n → first_of (each_entry side l n) ≡ Ok tt → AllSmall (tasks_from l n)
 list_small side l n e passed k h =
     let f : ℕ → Task = λ k. task_from (numbers_part l k) in
     let m : k < n = omega (arith, up_length f n) in
     subst (λ (x : Task). Small x) (sym (up_at f n k no_task m)) (entries_small side l n passed e k m)
 
-module _ (side : ℕ) (l : List ℕ) (room : ℕ) (passed : list_verdict side l room ≡ Passed) where
-  fronts : first_of (list_head side (length l) room ++ each_entry side l (length l / list_size)) ≡ Passed
+module _ (side : ℕ) (l : List ℕ) (room : ℕ) (passed : list_verdict side l room ≡ Ok tt) where
+  fronts : first_of (list_head side (length l) room ++ each_entry side l (length l / list_size)) ≡ Ok tt
   unfolding list_verdict
   fronts = first_left _ (each_double side (tasks_of l)) passed
 
-  pub list_head_lem : first_of (list_head side (length l) room) ≡ Passed
+  pub list_head_lem : first_of (list_head side (length l) room) ≡ Ok tt
   list_head_lem = first_left _ (each_entry side l (length l / list_size)) fronts
 
-  pub list_entries : first_of (each_entry side l (length l / list_size)) ≡ Passed
+  pub list_entries : first_of (each_entry side l (length l / list_size)) ≡ Ok tt
   list_entries = first_right (list_head side (length l) room) _ fronts
 
-  list_doubles : first_of (each_double side (tasks_of l)) ≡ Passed
+  list_doubles : first_of (each_double side (tasks_of l)) ≡ Ok tt
   unfolding list_verdict
   list_doubles = first_right (list_head side (length l) room ++ each_entry side l (length l / list_size)) _ passed
 
@@ -121,15 +121,15 @@ module _ (side : ℕ) (l : List ℕ) (room : ℕ) (passed : list_verdict side l 
 -- ---- the list of tasks that keep the rules and are small passes
 
 module _ (side : ℕ) (xs : List Task) (one : side ≤ 1) (legal : Legal side xs) (small : AllSmall xs) where
-  head_passes : (l : List ℕ) → length l ≡ list_size * length xs → first_of (list_head side (length l) block_size) ≡ Passed
+  head_passes : (l : List ℕ) → length l ≡ list_size * length xs → first_of (list_head side (length l) block_size) ≡ Ok tt
   unfolding first_of list_head
   head_passes l e =
       simp (eq-eqb (length l % list_size) 0 (omega arith), le-leb side 1 one, le-leb (length l / list_size) most_tasks (omega (arith, legal.few)))
 
-  entries_pass : first_of (each_entry side (list_of xs) (length xs)) ≡ Passed
+  entries_pass : first_of (each_entry side (list_of xs) (length xs)) ≡ Ok tt
   entries_pass = each_all (λ k. first_of (number_checks side k (numbers_part (list_of xs) k))) (length xs) (λ k h. rw (numbers_again xs k h) (entry_passes side k (get_or xs k no_task) (small k h) (legal_task side xs legal one k h)))
 
-  pub legal_list : list_verdict side (list_of xs) block_size ≡ Passed
+  pub legal_list : list_verdict side (list_of xs) block_size ≡ Ok tt
   unfolding list_verdict
   legal_list =
       first_on (list_head side (length (list_of xs)) block_size ++ each_entry side (list_of xs) (length (list_of xs) / list_size)) (each_double side (tasks_of (list_of xs)))

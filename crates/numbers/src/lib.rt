@@ -11,55 +11,47 @@ use block::{LIST_SIZE, Task};
 fn all_below(numbers: &[u32], bound: u32) -> bool
     ensures { result ≡ all_below bound numbers.now }
 {
-    let mut i: usize = 0;
-    while i < numbers.len() {
-        if bound <= numbers[i] {
-            return false;
-        }
-        i += 1;
-    }
-    true
+    numbers.iter().all(|n| *n < bound)
 }
 
-pub fn are_fit(numbers: &[u32]) -> bool
-    requires { length numbers.now ≡ list_size }
+pub fn are_fit(numbers: &[u32; LIST_SIZE]) -> bool
     ensures { result ≡ fits numbers.now }
 {
-    if all_below(&numbers[0..2], 256) {
-        return all_below(&numbers[2..LIST_SIZE], 65536);
-    }
-    false
+    all_below(&numbers[..2], 256) && all_below(&numbers[2..], 65536)
 }
 
-// The task of an entry that fits.
-pub fn task_from(numbers: &[u32]) -> Task
-    requires { (length numbers.now ≡ list_size) × (fits numbers.now ≡ true) }
+// The task of an entry that fits. No number is cut, so `as`, and no `try_from`, whose error could not come.
+#[tactic(auto, using(layout::proofs::Entries::entry_small), unfolding(block::specs::Record::task_from))]
+pub fn task_from(numbers: &[u32; LIST_SIZE]) -> Task
+    requires { fits numbers.now ≡ true }
     ensures { result ≡ task_from numbers.now }
 {
+    let [kind, priority, number, period, deadline, execution, offset] = *numbers;
     Task {
-        kind: numbers[0] as u8,
-        priority: numbers[1] as u8,
-        number: numbers[2] as u16,
-        period: numbers[3] as u16,
-        deadline: numbers[4] as u16,
-        execution: numbers[5] as u16,
-        offset: numbers[6] as u16,
+        kind: kind as u8,
+        priority: priority as u8,
+        number: number as u16,
+        period: period as u16,
+        deadline: deadline as u16,
+        execution: execution as u16,
+        offset: offset as u16,
     }
 }
 
-// A task's entry, put into its part of a list.
+// A task's entry, put into its part of a list, which is lent as a slice: a reference to an array is longer to lend.
+#[tactic(auto, unfolding(block::specs::Record::numbers_of))]
 pub fn put_numbers(numbers: &mut [u32], x: Task)
     requires { length numbers.old ≡ list_size }
     ensures { numbers.new ≡ numbers_of x }
 {
-    let entry: [u32; LIST_SIZE] = [
-        base::number(x.kind),
-        base::number(x.priority),
-        base::whole(x.number),
-        base::whole(x.period),
-        base::whole(x.deadline),
-        base::whole(x.execution),
-        base::whole(x.offset),
+    // copy_from_slice, which looks whether both overlap, takes half as long again.
+    *numbers.first_chunk_mut().unwrap() = [
+        u32::from(x.kind),
+        u32::from(x.priority),
+        u32::from(x.number),
+        u32::from(x.period),
+        u32::from(x.deadline),
+        u32::from(x.execution),
+        u32::from(x.offset),
     ];
-    base::copy_numbers(numbers, &entry);
 }

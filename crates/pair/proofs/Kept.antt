@@ -9,9 +9,8 @@ use lib.Seq.{get_or-append-add, get_or-drop}
 use Rattle.base.proofs.Lists.{flat_part}
 use Rattle.base.proofs.Search.{le_or_lt}
 use Rattle.block.specs.declared.Task.{Task}
-use Rattle.block.specs.declared.Verdict.{Verdict}
-use Rattle.block.specs.declared.Verdict.TheVariants.{Passed, Refused}
-use Rattle.block.specs.Answers.{first_of}
+use Rattle.block.specs.Answers.{Verdict, first_of}
+use Rattle.std.specs.Prelude.{Ok, Err}
 use Rattle.block.specs.Checks.{no_task}
 use Rattle.block.specs.Block.{Reading, holds, spoilt, reading_of}
 use Rattle.row.specs.Row.{row_of}
@@ -30,8 +29,8 @@ module _ (old_block new_block report : List ℕ) where
   refused_kept = go (reading_of 0 old_block) (reading_of 1 new_block)
     where
       settle : (v : Verdict) (rows : List ℕ) → ((settled v rows report).reply.code ≡ 0 → ⊥) → (settled v rows report).report ≡ report
-      settle Passed rows n = absurd (n refl)
-      settle (Refused a) rows n = refl
+      settle (Ok u) rows n = absurd (n refl)
+      settle (Err a) rows n = refl
 
       go : (r s : Reading) → ((judged r s report).reply.code ≡ 0 → ⊥) → (judged r s report).report ≡ report
       go (spoilt a) s n = refl
@@ -41,10 +40,10 @@ module _ (old_block new_block report : List ℕ) where
   module _ (m k : ℕ) (olds news : List Task) (p : reading_of 0 old_block ≡ holds m olds) (q : reading_of 1 new_block ≡ holds k news) where
     with_room : row_size * (length olds + length news) ≤ length report → (pair_of olds news report).reply.code ≡ 0 → (v : Verdict)
         → first_of (late_checks olds news) ≡ v → Accepted old_block new_block report (pair_of olds news report).report
-    with_room h e (Refused a) w =
+    with_room h e (Err a) w =
         let z : a.code ≡ 0 = rw (pair_late olds news report a h w) at e in
         absurd (omega (arith, late_coded olds news a w))
-    with_room h e Passed w =
+    with_room h e (Ok tt) w =
         record {
           old_mode = m;
           new_mode = k;

@@ -2,8 +2,7 @@
 use Rattle.std.specs.Prelude.{ℕ, ◌+◌, ◌*◌, List, ◌∷◌, length, ltb}
 use Rattle.block.specs.declared.Task.{Task}
 use Rattle.block.specs.declared.Answer.{Answer}
-use Rattle.block.specs.declared.Verdict.{Verdict}
-use Rattle.block.specs.Answers.{answer, refuse, first_of, answer_of}
+use Rattle.block.specs.Answers.{Verdict, answer, refuse, first_of, answer_of}
 use Rattle.block.specs.Block.{Reading, holds, spoilt, reading_of}
 use Rattle.rows.specs.Rows.{row_size, rows_of, late_checks, reported}
 

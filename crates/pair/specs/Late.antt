@@ -4,7 +4,9 @@ use Rattle.block.specs.declared.Task.{Task}
 use Rattle.block.specs.declared.Answer.{Answer}
 use Rattle.block.specs.Answers.{answer, done}
 use Rattle.block.specs.Checks.{no_task}
-use Rattle.window.specs.Order.{Kind, completed, aborted, new, kind_of}
+use Rattle.block.specs.declared.Kind.{Kind}
+use Rattle.block.specs.declared.Kind.TheVariants.{Completed, Aborted, New}
+use Rattle.window.specs.Order.{kind_of}
 use Rattle.window.specs.Demand.{steady_demand, phase_demand, request_demand}
 
 -- a demand closes at some whole t from 1 up to the limit; at none
@@ -16,20 +18,20 @@ Unclosed demand limit = (t : ℕ) → 1 ≤ t → t ≤ limit → t < demand t
 
 -- completed: at some phase no t up to D closes; aborted: steady; new: steady by D, or from the request by Y + D
 abbrev pub LateKind : Kind → List Task → List Task → Task → Type 0
-LateKind completed olds news i = (x : ℕ) × (1 ≤ x) × (x ≤ i.deadline) × Unclosed (phase_demand olds news i x) i.deadline
-LateKind aborted olds news i = Unclosed (steady_demand olds i) i.deadline
-LateKind new olds news i = Unclosed (steady_demand news i) i.deadline ⊎ Unclosed (request_demand olds news i) (i.offset + i.deadline)
+LateKind Completed olds news i = (x : ℕ) × (1 ≤ x) × (x ≤ i.deadline) × Unclosed (phase_demand olds news i x) i.deadline
+LateKind Aborted olds news i = Unclosed (steady_demand olds i) i.deadline
+LateKind New olds news i = Unclosed (steady_demand news i) i.deadline ⊎ Unclosed (request_demand olds news i) (i.offset + i.deadline)
 
 abbrev pub IsLate : List Task → List Task → Task → Type 0
 IsLate olds news i = LateKind (kind_of i) olds news i
 
 -- with its detail: the smallest late phase; 0 for aborted; 0 steady, 1 from the request where steady closes
 abbrev pub DetailKind : Kind → List Task → List Task → Task → ℕ → Type 0
-DetailKind completed olds news i x =
+DetailKind Completed olds news i x =
     (1 ≤ x) × (x ≤ i.deadline) × Unclosed (phase_demand olds news i x) i.deadline
     × ((y : ℕ) → 1 ≤ y → y < x → Closing (phase_demand olds news i y) i.deadline)
-DetailKind aborted olds news i d = (d ≡ 0) × Unclosed (steady_demand olds i) i.deadline
-DetailKind new olds news i d =
+DetailKind Aborted olds news i d = (d ≡ 0) × Unclosed (steady_demand olds i) i.deadline
+DetailKind New olds news i d =
     ((d ≡ 0) × Unclosed (steady_demand news i) i.deadline)
     ⊎ ((d ≡ 1) × Closing (steady_demand news i) i.deadline × Unclosed (request_demand olds news i) (i.offset + i.deadline))
 

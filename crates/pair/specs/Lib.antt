@@ -1,4 +1,5 @@
 pub mod Analysis
+pub mod Verdict
 pub mod Accepted
 pub mod Late
 pub mod Cases

@@ -7,69 +7,54 @@ ghost use Rattle.block.specs.Format.{block_size, record_size, head_size};
 ghost use Rattle.block.specs.Record.{word_bytes, record_of};
 ghost use Rattle.block.specs.Block.{head_of};
 
-use block::{BLOCK_SIZE, HEAD_SIZE, MARK_FIRST, MARK_SECOND, RECORD_SIZE, Task};
+use block::{BLOCK_SIZE, HEAD_SIZE, MARK_FIRST, MARK_SECOND, Task};
 
 // A task's sixteen bytes, put into their part of a block.
+#[tactic(auto, unfolding(block::specs::Record::record_of))]
 pub fn put_record(rec: &mut [u8], x: Task)
     requires { length rec.old ≡ record_size }
     ensures { rec.new ≡ record_of x }
 {
-    let bytes: [u8; RECORD_SIZE] = [
+    let number = x.number.to_le_bytes();
+    let period = x.period.to_le_bytes();
+    let deadline = x.deadline.to_le_bytes();
+    let execution = x.execution.to_le_bytes();
+    let offset = x.offset.to_le_bytes();
+    // copy_from_slice, which looks whether both overlap, takes half as long again.
+    *rec.first_chunk_mut().unwrap() = [
         x.kind,
         x.priority,
-        (x.number % 256) as u8,
-        (x.number / 256 % 256) as u8,
-        (x.period % 256) as u8,
-        (x.period / 256 % 256) as u8,
-        (x.deadline % 256) as u8,
-        (x.deadline / 256 % 256) as u8,
-        (x.execution % 256) as u8,
-        (x.execution / 256 % 256) as u8,
-        (x.offset % 256) as u8,
-        (x.offset / 256 % 256) as u8,
+        number[0],
+        number[1],
+        period[0],
+        period[1],
+        deadline[0],
+        deadline[1],
+        execution[0],
+        execution[1],
+        offset[0],
+        offset[1],
         0,
         0,
         0,
         0,
     ];
-    base::copy_bytes(rec, &bytes);
-}
-
-fn put_head(head: &mut [u8], side: u8, mode: u16, n: u8)
-    requires { length head.old ≡ head_size }
-    ensures { head.new ≡ head_of side mode n }
-{
-    let bytes: [u8; HEAD_SIZE] = [
-        MARK_FIRST,
-        MARK_SECOND,
-        side,
-        n,
-        (mode % 256) as u8,
-        (mode / 256 % 256) as u8,
-        0,
-        0,
-    ];
-    base::copy_bytes(head, &bytes);
 }
 
 pub fn put_check(check: &mut [u8], sum: u64)
     requires { length check.old ≡ 4 }
     ensures { check.new ≡ word_bytes sum }
 {
-    let bytes: [u8; 4] = [
-        (sum % 256) as u8,
-        (sum / 256 % 256) as u8,
-        (sum / 65536 % 256) as u8,
-        (sum / 65536 / 256 % 256) as u8,
-    ];
-    base::copy_bytes(check, &bytes);
+    check.copy_from_slice(&sum.to_le_bytes()[..4]);
 }
 
 // A block of zeros behind a head.
+#[tactic(auto, unfolding(block::specs::Block::head_of))]
 pub fn empty_block(side: u8, mode: u16, n: u8) -> [u8; BLOCK_SIZE]
     ensures { result ≡ head_of side mode n ++ replicate (block_size - head_size) 0 }
 {
-    let mut block = [0u8; BLOCK_SIZE];
-    put_head(&mut block[0..HEAD_SIZE], side, mode, n);
+    let mode = mode.to_le_bytes();
+    let mut block = [0; BLOCK_SIZE];
+    block[..HEAD_SIZE].copy_from_slice(&[MARK_FIRST, MARK_SECOND, side, n, mode[0], mode[1], 0, 0]);
     block
 }

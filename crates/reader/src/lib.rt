@@ -2,66 +2,45 @@
 
 #![tactic(auto)]
 
-ghost use Rattle.std.specs.Prelude.{◌≡◌};
+ghost use Rattle.std.specs.Prelude.{◌≡◌, MatchResult};
 ghost use Rattle.block.specs.Block.{read_of, loaded_of};
 
-use block::{Answer, LIST_SIZE, Loaded, Verdict};
+use block::{Answer, Code, LIST_SIZE, Loaded, SHORT};
 
-// The table that a block holds, or the refusal.
-pub fn load(block: &[u8], side: u32) -> Loaded
+// The mode number and the table that a block holds, or the refusal.
+#[tactic(auto, unfolding(block::specs::Block::loaded_of, block::specs::Block::reading_of))]
+pub fn load(block: &[u8], side: u32) -> Result<Loaded, Answer>
     ensures { result ≡ loaded_of side block.now }
 {
-    match checks::check_block(block, side) {
-        Verdict::Refused(a) => {
-            let table = tasks::no_tasks();
-            Loaded {
-                answer: a,
-                mode: 0,
-                table,
-            }
-        }
-        Verdict::Passed => {
-            let mode = words::half_at(block, 4);
-            let table = tasks::table_of(block, base::count(block[3]));
-            Loaded {
-                answer: Answer {
-                    code: 0,
-                    side: 2,
-                    record: 0,
-                    detail: 0,
-                },
-                mode,
-                table,
-            }
-        }
-    }
+    let records = checks::records_of(block, side)?;
+    let mode = words::half_at(block, 4);
+    let table = tasks::table_of(records);
+    Ok(Loaded { mode, table })
 }
 
-// A block into the front of a lent list of entries.
+// Reading answers a list that was filled, or refuses.
+#[tactic(auto, using(crate::proofs::Outcomes::outcomes))]
+fn try_read(block: &[u8], side: u32, list: &mut [u32]) -> Result<Answer, Answer>
+    ensures { let o = read_of side block.now list.old in MatchResult result (λ a. a ≡ o.reply) (λ a. a ≡ o.reply) × (list.new ≡ o.list) }
+{
+    let records = checks::records_of(block, side)?;
+    if list.len() < LIST_SIZE * records.count {
+        return Err(SHORT);
+    }
+    tasks::put_tasks(records, list);
+    Ok(Answer {
+        code: Code::Done as u32,
+        side,
+        record: records.count as u32,
+        detail: u32::from(words::half_at(block, 4)),
+    })
+}
+
+// A block into the front of a lent list of entries. C reads an answer whether it refuses or not.
 pub fn read(block: &[u8], side: u32, list: &mut [u32]) -> Answer
     ensures { (result ≡ (read_of side block.now list.old).reply) × (list.new ≡ (read_of side block.now list.old).list) }
 {
-    match checks::check_block(block, side) {
-        Verdict::Refused(a) => a,
-        Verdict::Passed => {
-            let mode = base::whole(words::half_at(block, 4));
-            let tasks = base::number(block[3]);
-            let n = base::count(block[3]);
-            if list.len() < LIST_SIZE * n {
-                return Answer {
-                    code: 8,
-                    side: 2,
-                    record: 0,
-                    detail: 0,
-                };
-            }
-            tasks::put_tasks(block, n, list);
-            Answer {
-                code: 0,
-                side,
-                record: tasks,
-                detail: mode,
-            }
-        }
+    match try_read(block, side, list) {
+        Ok(a) | Err(a) => a,
     }
 }

@@ -7,7 +7,7 @@
 use block::{Answer, BLOCK_SIZE, LIST_SIZE};
 use std::io;
 use std::io::Write;
-use tries::{MODE, MOST_BYTES, MOST_NUMBERS, number};
+use tries::{MODE, MOST_BYTES, MOST_NUMBERS, NO_BYTE, NO_NUMBER, number};
 
 // ---- the reader
 
@@ -16,8 +16,8 @@ fn good_bytes(line: &[u8]) -> [u8; MOST_BYTES] {
     let side = number(line, 3);
     let list = tries::good_list(side);
     let size = tries::room(line, 0, LIST_SIZE, MOST_NUMBERS);
-    let mut bytes = tries::no_bytes();
-    writer::write(side, MODE, &list[0..size], &mut bytes[0..BLOCK_SIZE]);
+    let mut bytes = [NO_BYTE; MOST_BYTES];
+    writer::write(side, MODE, &list[..size], &mut bytes[..BLOCK_SIZE]);
     bytes
 }
 
@@ -30,9 +30,9 @@ fn bytes_of(line: &[u8]) -> [u8; MOST_BYTES] {
 
 // Whether the tasks of an accepted block write as the block that they were read from.
 fn writes_back(a: Answer, list: &[u32], end: usize, bytes: &[u8]) -> bool {
-    let n = base::least(end, list.len());
-    let mut again = tries::no_block();
-    writer::write(a.side, (a.detail % 65536) as u16, &list[0..n], &mut again);
+    let n = end.min(list.len());
+    let mut again = [NO_BYTE; BLOCK_SIZE];
+    writer::write(a.side, (a.detail % 65536) as u16, &list[..n], &mut again);
     again.as_slice() == bytes
 }
 
@@ -46,9 +46,10 @@ fn tell_accepted<W: Write>(
 ) -> io::Result<()> {
     let count = a.record as usize;
     let end = LIST_SIZE * count;
-    says::say(to, b", rest")?;
-    says::say_kept(to, tries::same_from(list, before, end))?;
-    says::say_back(to, writes_back(a, list, end, bytes))?;
+    let kept = tries::same_from(list, before, end);
+    let same = writes_back(a, list, end, bytes);
+    says::say_whether(to, kept, b", rest kept", b", rest changed")?;
+    says::say_whether(to, same, b", back same", b", back other")?;
     if 0 < count {
         says::say_entry(to, list, 0)?;
     }
@@ -67,6 +68,7 @@ fn tell_read<W: Write>(
 ) -> io::Result<()> {
     let a = reader::read(bytes, wanted, list);
     says::say_outcome(to, a, tries::same_from(list, before, 0))?;
+    // The answer is the one C gets, in numbers.
     if a.code == 0 {
         tell_accepted(to, a, list, before, bytes)?;
     }
@@ -75,17 +77,12 @@ fn tell_read<W: Write>(
 
 fn read<W: Write>(to: &mut W, line: &[u8]) -> io::Result<()> {
     let bytes = bytes_of(line);
-    let mut list = tries::no_numbers();
-    let before = tries::no_numbers();
+    let wanted = number(line, 5);
+    let mut list = [NO_NUMBER; MOST_NUMBERS];
+    let before = list;
     let long = tries::length_of(line, 7, MOST_BYTES);
     let room = tries::room(line, 8, LIST_SIZE, MOST_NUMBERS);
-    tell_read(
-        to,
-        &bytes[0..long],
-        number(line, 5),
-        &mut list[0..room],
-        &before,
-    )
+    tell_read(to, &bytes[..long], wanted, &mut list[..room], &before)
 }
 
 // ---- the loader
@@ -93,31 +90,18 @@ fn read<W: Write>(to: &mut W, line: &[u8]) -> io::Result<()> {
 fn load<W: Write>(to: &mut W, line: &[u8]) -> io::Result<()> {
     let bytes = bytes_of(line);
     let long = tries::length_of(line, 7, MOST_BYTES);
-    says::say_loaded(to, reader::load(&bytes[0..long], number(line, 5)))
+    says::say_loaded(to, reader::load(&bytes[..long], number(line, 5)))
 }
 
 // ---- the lines
 
 // A line that starts with neither letter is only printed.
-fn try_line<W: Write>(to: &mut W, line: &[u8]) -> io::Result<()> {
-    says::say(to, line)?;
-    match line {
-        [b'r', ..] => read(to, line)?,
-        [b'l', ..] => load(to, line)?,
-        _ => {}
-    }
-    says::say(to, b"\n")
-}
-
-fn try_lines<W: Write>(to: &mut W, text: &[u8]) -> io::Result<()> {
-    for line in text.split_inclusive(|b| *b == b'\n') {
-        try_line(to, line.strip_suffix(b"\n").unwrap_or(line))?;
-    }
-    Ok(())
-}
-
 fn main(rt: HostRuntime) -> io::Result<()> {
-    let mut text = [0u8; 65536];
+    let mut text = [0; 65536];
     let n = streams::read_full(&mut rt.stdin(), &mut text)?;
-    try_lines(&mut rt.stdout(), &text[..n])
+    says::say_lines(&mut rt.stdout(), &text[..n], |to, line| match line {
+        [b'r', ..] => read(to, line),
+        [b'l', ..] => load(to, line),
+        _ => Ok(()),
+    })
 }

@@ -2,18 +2,46 @@
 
 #![tactic(auto)]
 
-ghost use Rattle.std.specs.Prelude.{◌≡◌, length, ◌<◌};
-ghost use Rattle.block.specs.Format.{block_size, most_tasks, record_size};
+ghost use Rattle.std.specs.Prelude.{◌≡◌, ◌<◌, ◌≤◌, length};
+ghost use Rattle.block.specs.Format.{block_size, most_tasks};
 ghost use Rattle.block.specs.Block.{record_part};
 ghost use Rattle.block.specs.Record.{task_of};
 ghost use Rattle.block.specs.Answers.{first_of};
 ghost use Rattle.block.specs.Checks.{record_checks, alike};
 
-use block::{HEAD_SIZE, RECORD_SIZE, Task, Verdict, ZERO_PLACE};
+use block::{Code, HEAD_SIZE, RECORD_SIZE, Task, Verdict, ZERO_PLACE};
+
+// The first `count` records of a block.
+#[derive(Clone, Copy)]
+pub struct Records<'a> {
+    pub block: &'a [u8],
+    pub count: usize,
+    pub ghost whole: { length block.now ≡ block_size },
+    pub ghost few: { count ≤ most_tasks },
+}
+
+impl<'a> Records<'a> {
+    // The sixteen bytes of record k.
+    pub fn part(self, k: usize) -> &'a [u8; RECORD_SIZE]
+        requires { k < most_tasks }
+        ensures { result.now ≡ record_part self.entry.block.now k }
+    {
+        let at = HEAD_SIZE + RECORD_SIZE * k;
+        self.block[at..at + RECORD_SIZE].first_chunk().unwrap()
+    }
+
+    // The task of record k.
+    pub fn task(self, k: usize) -> Task
+        requires { k < most_tasks }
+        ensures { result ≡ task_of (record_part self.entry.block.now k) }
+    {
+        record_at(self.part(k))
+    }
+}
 
 // The task of a record's sixteen bytes.
-pub fn record_at(rec: &[u8]) -> Task
-    requires { length rec.now ≡ record_size }
+#[tactic(auto, unfolding(block::specs::Record::task_of))]
+pub fn record_at(rec: &[u8; RECORD_SIZE]) -> Task
     ensures { result ≡ task_of rec.now }
 {
     Task {
@@ -27,36 +55,17 @@ pub fn record_at(rec: &[u8]) -> Task
     }
 }
 
-// The task of record k of a block.
-pub fn task_at(block: &[u8], k: usize) -> Task
-    requires { (length block.now ≡ block_size) × (k < most_tasks) }
-    ensures { result ≡ task_of (record_part block.now k) }
-{
-    let at = HEAD_SIZE + RECORD_SIZE * k;
-    record_at(&block[at..at + RECORD_SIZE])
-}
-
-pub fn check_record(rec: &[u8], side: u32, k: u32) -> Verdict
-    requires { length rec.now ≡ record_size }
+#[tactic(auto, using(block::proofs::Verdicts::first_stop, block::proofs::Verdicts::first_last))]
+pub fn check_record(rec: &[u8; RECORD_SIZE], side: u32, k: u32) -> Verdict
     ensures { result ≡ first_of (record_checks side k rec.now) }
 {
-    match rules::check_task(side, k, record_at(rec)) {
-        Verdict::Refused(a) => Verdict::Refused(a),
-        Verdict::Passed => {
-            if words::all_zero(&rec[ZERO_PLACE..RECORD_SIZE]) {
-                return Verdict::Passed;
-            }
-            rules::refused(5, side, k)
-        }
-    }
+    rules::check_task(side, k, record_at(rec))?;
+    rules::refuse(!words::all_zero(&rec[ZERO_PLACE..]), Code::Rule, side, k)
 }
 
-pub fn are_alike<'a>(first: &'a [u8], second: &'a [u8]) -> bool
-    requires { (length first.now ≡ record_size) × (length second.now ≡ record_size) }
+#[tactic(auto, unfolding(block::specs::Checks::alike, block::specs::Record::task_of))]
+pub fn are_alike(first: &[u8; RECORD_SIZE], second: &[u8; RECORD_SIZE]) -> bool
     ensures { result ≡ alike (task_of first.now) (task_of second.now) }
 {
-    if words::half_at(first, 2) == words::half_at(second, 2) {
-        return true;
-    }
-    first[1] == second[1]
+    words::half_at(first, 2) == words::half_at(second, 2) || first[1] == second[1]
 }

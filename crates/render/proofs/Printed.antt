@@ -1,99 +1,93 @@
 -- Laws of the printed lines: one task more, how long they get, and what writing them does.
-use Prim.Native.Nat.{ℕ, suc, ◌+◌, ◌*◌, ◌-◌, ◌≤◌, ◌<◌, min}
-use mathlib.Core.Path.{◌≡◌, refl, sym, ap, subst, ◌∙◌}
-use mathlib.Core.Logic.{⊎_elim}
-use mathlib.Core.List.{List, [], ◌∷◌, ◌++◌, append_assoc, append-nil}
-use lib.ListN.{length, get_or, set, take, drop, length-append, length-drop, drop_of_length-le}
-use lib.Seq.{take-suc, take_all, length-take-le}
-use lib.Dec.{eqb}
-use borrow.Author.Tests.{eq-eqb, ne_eqb}
-use native.Mathlib.Omega.{arith}
-use native.Mathlib.Nat.{add-zero}
-use native.Mathlib.Numerals.{add-one}
-use Rattle.base.proofs.Search.{le_or_lt, either}
-use Rattle.base.proofs.Lists.{over_more}
+use Rattle.std.proofs.Common.{◌≡◌, Ok, Err, ℕ, zero, suc, ◌+◌, ◌*◌, ◌-◌, ◌≤◌, ◌<◌, List, [], ◌∷◌, ◌++◌, length, get_or, take, drop, length-append, append_assoc, refl, sym, ap, subst, ◌∙◌, ⊎_elim, arith, add-one, add-suc, add-zero, eqb, drop-drop}
+use Rattle.std.proofs.lemmas.List.{drop_more, drop_all, take_rest}
+use Rattle.std.specs.Simd.{first_chunks}
+use Rattle.base.proofs.Search.{either}
 use Rattle.lines.specs.Put.{put}
 use Rattle.lines.specs.Line.{decimal, spaced, rest_of, line_of}
 use Rattle.lines.specs.Words.{change_word, change_line, letter_at}
-use Rattle.lines.proofs.Put.{put_more, put_front}
-use Rattle.lines.proofs.Decimal.{five_digits, ten_digits}
-use Rattle.lines.proofs.Line.{spaced_longer, rest_long, line_long_lem, line_some}
+use Rattle.lines.proofs.Put.{put_more}
+use Rattle.lines.proofs.Decimal.{digits_few}
+use Rattle.lines.proofs.Line.{line_some}
 use Rattle.block.specs.declared.Task.{Task}
 use Rattle.block.specs.declared.Answer.{Answer}
 use Rattle.block.specs.declared.Loaded.{Loaded}
-use Rattle.block.specs.Format.{block_size}
 use Rattle.block.specs.Checks.{no_task}
-use Rattle.block.specs.Block.{Reading, holds, spoilt, reading_of, listed, loaded, loaded_of}
-use Rattle.block.specs.Legal.{Legal, Tabled}
-use Rattle.block.proofs.Tables.{table_listed, table_tabled}
+use Rattle.block.specs.Block.{Reading, holds, spoilt, reading_of, table_of, listed, loaded, loaded_of}
+use Rattle.block.specs.Legal.{Tabled}
 use Rattle.block.proofs.Reading.{reading_legal}
+use Rattle.block.proofs.Tables.{table_listed, table_tabled}
+use Rattle.rows.specs.Rows.{row_size}
+use Rattle.pair.specs.Verdict.{verdict_of}
 use Rattle.pair.specs.Analysis.{Analysis}
 use Rattle.render.specs.Printed.{old_block, new_block, found, mode_held, tasks_held, refused_word, refused_line, task_line, row_part, task_lines, done_lines, lines_of, pair_lines, printed, most_line}
 
 -- ---- the tasks' lines
 
-lines_append : (report : List ℕ) (j : ℕ) (xs ys : List Task) → task_lines report j (xs ++ ys) ≡ task_lines report j xs ++ task_lines report (j + length xs) ys
+row_from : (report : List ℕ) (n j : ℕ) → row_part (drop (row_size * n) report) j ≡ row_part report (n + j)
+row_from report n j =
+    let w : row_size * j + row_size - row_size * j ≡ row_size = omega arith in
+    let w' : row_size * (n + j) + row_size - row_size * (n + j) ≡ row_size = omega arith in
+    let e : row_size * n + row_size * j ≡ row_size * (n + j) = omega arith in
+    rw (drop-drop (row_size * j) (row_size * n) report, w, w', e) refl
+
+-- the numbers from the row of the first task on are rows as well
+pub lines_from : (report : List ℕ) (n j : ℕ) (xs : List Task) → task_lines (drop (row_size * n) report) j xs ≡ task_lines report (n + j) xs
 unfolding task_lines
-lines_append report j [] ys = rw add-zero
-lines_append report j (x ∷ xs) ys =
-    let e : suc j + length xs ≡ j + length (x ∷ xs) = omega arith in
-    let r = lines_append report (suc j) xs ys ∙ ap (λ (k : ℕ). task_lines report (suc j) xs ++ task_lines report k ys) e in
-    rw r (sym (append_assoc (task_line x (row_part report j)) (task_lines report (suc j) xs) (task_lines report (j + length (x ∷ xs)) ys)))
+lines_from report n j [] = refl
+lines_from report n j (x ∷ xs) = rw (row_from report n j, lines_from report n (suc j) xs) (simp add-suc)
 
--- the line of task k of a list
-abbrev pub line_at : List ℕ → ℕ → List Task → ℕ → List ℕ
-line_at report j xs k = task_line (get_or xs k no_task) (row_part report (j + k))
+-- a row by its place among the rows
+pub row_at : (report : List ℕ) (n k : ℕ) (d : List ℕ) → k < n → get_or (first_chunks row_size n report) k d ≡ row_part report k
+row_at report zero k d h = absurd (omega arith)
+row_at report (suc n) zero d h = refl
+row_at report (suc n) (suc k) d h = row_at (drop row_size report) n k d (omega arith) ∙ row_from report 1 k ∙ (let e : 1 + k ≡ suc k = omega arith in ap (row_part report) e)
 
-lines_one : (report : List ℕ) (j : ℕ) (x : Task) → task_lines report j (x ∷ []) ≡ task_line x (row_part report j)
+-- from task k on: its line, and the lines from the next one on
+pub lines_more : (report : List ℕ) (xs : List Task) (k : ℕ) → k < length xs → task_lines report k (drop k xs) ≡ task_line (get_or xs k no_task) (row_part report k) ++ task_lines report (k + 1) (drop (k + 1) xs)
 unfolding task_lines
-lines_one report j x = append-nil (task_line x (row_part report j))
+lines_more report xs k h = rw (drop_more xs k no_task h, add-one)
 
-lines_more : (report : List ℕ) (j : ℕ) (xs : List Task) (k : ℕ) → k < length xs → task_lines report j (take (k + 1) xs) ≡ task_lines report j (take k xs) ++ line_at report j xs k
-lines_more report j xs k h =
-    let n : length (take k xs) ≡ k = length-take-le k xs (omega arith) in
-    rw (add-one, take-suc xs k no_task h)
-    (lines_append report j (take k xs) (get_or xs k no_task ∷ [])
-    ∙ ap (λ (m : ℕ). task_lines report j (take k xs) ++ task_lines report (j + m) (get_or xs k no_task ∷ [])) n
-    ∙ ap (λ (l : List ℕ). task_lines report j (take k xs) ++ l) (lines_one report (j + k) (get_or xs k no_task)))
+-- a turn of the loop over the tasks: task k's line is put, and the lines from the next task on remain
+module _ (numbers : List ℕ) (xs : List Task) (k : ℕ) (t t' : List ℕ) (end end' : ℕ) (x : Task) (row : List ℕ) (h : k < length xs) (e : x ≡ get_or xs k no_task) (f : row ≡ row_part numbers k) where
+  pub length_turn : end' ≡ end + length (task_line x row) → end' + length (task_lines numbers (k + 1) (drop (k + 1) xs)) ≡ end + length (task_lines numbers k (drop k xs))
+  length_turn m = rw (m, e, f, lines_more numbers xs k h) (simp length-append (omega arith))
 
--- a turn of the loop that prints the tasks of a table
-module _ (report : List ℕ) (j : ℕ) (xs : List Task) (k : ℕ) (h : k < length xs) where
-  pub lines_longer : length (task_lines report j (take (k + 1) xs)) ≡ length (task_lines report j (take k xs)) + length (line_at report j xs k)
-  lines_longer = ap length (lines_more report j xs k h) ∙ length-append (task_lines report j (take k xs)) (line_at report j xs k)
+  pub put_turn : end ≤ length t → end' ≡ end + length (task_line x row) → t' ≡ put t end (task_line x row) → put t' end' (task_lines numbers (k + 1) (drop (k + 1) xs)) ≡ put t end (task_lines numbers k (drop k xs))
+  put_turn l m q = rw (q, m, put_more t end (task_line x row) (task_lines numbers (k + 1) (drop (k + 1) xs)) l, e, f, lines_more numbers xs k h) refl
 
-  pub put_one_more : (b b₁ b₂ : List ℕ) (at end : ℕ) → at ≤ length b → b₁ ≡ put b at (task_lines report j (take k xs)) → end ≡ at + length (task_lines report j (take k xs))
-      → b₂ ≡ put b₁ end (line_at report j xs k) → b₂ ≡ put b at (task_lines report j (take (k + 1) xs))
-  put_one_more b b₁ b₂ at end l e m q = q ∙ rw (e, m) (put_more b at (task_lines report j (take k xs)) (line_at report j xs k) l ∙ ap (put b at) (sym (lines_more report j xs k h)))
+-- and no line remains behind the last task
+pub lines_end : (numbers : List ℕ) (xs : List Task) (k : ℕ) → length xs ≤ k → task_lines numbers k (drop k xs) ≡ []
+unfolding task_lines
+lines_end numbers xs k h = rw (drop_all k xs h)
 
 -- ---- how long the lines get
 
--- a line's numbers as they are filled in: the task's own of at most five digits, then one more of the row of at most ten
-pub number_room : (number : ℕ) → number < 65536 → length (spaced (number ∷ [])) ≤ 6
-unfolding spaced
-number_room number h = simp length-append (omega (arith, five_digits number (omega arith)))
+five_digits : (n : ℕ) → n < 65536 → length (decimal n) ≤ 5
+five_digits n h = digits_few 5 n (omega arith) (omega arith) (omega arith)
 
-pub row_more : (number v : ℕ) (row l zeros : List ℕ) (i : ℕ) → i < length row → i + 1 < length zeros → v ≡ get_or row i 0
-    → l ≡ take (i + 1) (number ∷ row) ++ drop (i + 1) zeros → set l (i + 1) v ≡ take (i + 1 + 1) (number ∷ row) ++ drop (i + 1 + 1) zeros
-row_more number v row l zeros i h k q e =
-    let m : v ≡ get_or (number ∷ row) (i + 1) 0 = rw add-one q in
-    rw m (over_more l zeros (number ∷ row) (i + 1) 0 (omega arith) k e)
+ten_digits : (n : ℕ) → n < 4294967296 → length (decimal n) ≤ 10
+ten_digits n h = digits_few 10 n (omega arith) (omega arith) (omega arith)
 
-pub row_room : (number v : ℕ) (row : List ℕ) (i : ℕ) → i < length row → v ≡ get_or row i 0 → v < 4294967296
-    → length (spaced (take (i + 1) (number ∷ row))) ≤ 6 + 11 * i → length (spaced (take (i + 1 + 1) (number ∷ row))) ≤ 6 + 11 * (i + 1)
-row_room number v row i h q l e =
-    let m : v ≡ get_or (number ∷ row) (i + 1) 0 = rw add-one q in
-    let d : length (decimal (get_or (number ∷ row) (i + 1) 0)) ≤ 10 = rw (← m) (ten_digits v l) in
-    omega (arith, spaced_longer (number ∷ row) (i + 1) (omega arith))
+three : (row : List ℕ) → length row ≡ row_size → row ≡ get_or row 0 0 ∷ get_or row 1 0 ∷ get_or row 2 0 ∷ []
+three [] h = absurd (omega arith)
+three (a ∷ []) h = absurd (omega arith)
+three (a ∷ b ∷ []) h = absurd (omega arith)
+three (a ∷ b ∷ c ∷ []) h = refl
+three (a ∷ b ∷ c ∷ d ∷ l) h = absurd (omega arith)
 
--- the line is its letter, its numbers and a line feed
-pub task_line_lem : (x : Task) (row numbers : List ℕ) (letter : ℕ) → letter ≡ letter_at x.kind → numbers ≡ x.number ∷ row → line_of (letter ∷ []) numbers ≡ task_line x row
-unfolding task_line
-task_line_lem x row numbers letter e f = rw (e, f)
+-- a letter, a number of at most five digits, three numbers of at most ten
+four_room : (letter n a b c : ℕ) → n < 65536 → a < 4294967296 → b < 4294967296 → c < 4294967296 → length (line_of (letter ∷ []) (n ∷ a ∷ b ∷ c ∷ [])) ≤ most_line
+unfolding line_of rest_of spaced
+four_room letter n a b c hn ha hb hc = simp length-append (omega (arith, five_digits n hn, ten_digits a ha, ten_digits b hb, ten_digits c hc))
 
-pub task_room : (x : Task) (row numbers : List ℕ) → numbers ≡ x.number ∷ row → length (spaced numbers) + 2 ≤ most_line → length (task_line x row) ≤ most_line
-unfolding task_line
-task_room x row numbers e h =
-    omega (arith, line_long_lem (letter_at x.kind ∷ []) (x.number ∷ row), rest_long (x.number ∷ row), ap (λ (l : List ℕ). length (spaced l)) e)
+module _ (x : Task) (row : List ℕ) (h : length row ≡ row_size) where
+  pub task_line_lem : (letter n a b c : ℕ) → letter ≡ letter_at x.kind → n ≡ x.number → a ≡ get_or row 0 0 → b ≡ get_or row 1 0 → c ≡ get_or row 2 0 → line_of (letter ∷ []) (n ∷ a ∷ b ∷ c ∷ []) ≡ task_line x row
+  unfolding task_line
+  task_line_lem letter n a b c l m p q r = rw (l, m, p, q, r, ← three row h) refl
+
+  pub task_room : x.number < 65536 → ((i : ℕ) → get_or row i 0 < 4294967296) → length (task_line x row) ≤ most_line
+  task_room m p = rw (← task_line_lem (letter_at x.kind) x.number (get_or row 0 0) (get_or row 1 0) (get_or row 2 0) refl refl refl refl refl) (four_room (letter_at x.kind) x.number (get_or row 0 0) (get_or row 1 0) (get_or row 2 0) m (p 0) (p 1) (p 2))
 
 pub refused_room : (a : Answer) → a.code < 4294967296 → a.side < 4294967296 → a.«record» < 4294967296 → a.detail < 4294967296 → length (refused_line a) ≤ 52
 unfolding refused_line line_of rest_of spaced
@@ -119,90 +113,68 @@ module _ (a b : ℕ) (olds news : List Task) (report : List ℕ) where
       ∙ rw (p, k) (put_more t 0 (change_line a b ++ task_lines report 0 olds) (task_lines report (length olds) news) (omega arith))
       ∙ ap (put t 0) (append_assoc (change_line a b) (task_lines report 0 olds) (task_lines report (length olds) news))
 
--- what is loaded of a block
-loaded_tasks : (r : Reading) → listed (loaded r).table ≡ tasks_held r
-unfolding tasks_held
-loaded_tasks (spoilt a) = refl
-loaded_tasks (holds mode xs) = table_listed xs
+-- the rows of the new tasks stand behind those of the old
+pub news_lines : (report : List ℕ) (n : ℕ) (olds news : List Task) → length olds ≡ n
+    → task_lines (take (length report - row_size * n) (drop (row_size * n) report)) 0 news ≡ task_lines report (length olds) news
+news_lines report n olds news e = rw (take_rest report (row_size * n), lines_from report n 0 news, add-zero, e) refl
 
-loaded_mode : (r : Reading) → (loaded r).mode ≡ mode_held r
-unfolding mode_held
-loaded_mode (spoilt a) = refl
-loaded_mode (holds mode xs) = refl
+-- ---- what is loaded of a block
 
-module _ (s : Analysis) (o n : Reading) where
-  pub lines_refused : (s.reply.code ≡ 0 → ⊥) → lines_of s o n ≡ refused_line s.reply
-  unfolding lines_of
-  lines_refused h = rw (ne_eqb s.reply.code 0 h)
+module _ (side : ℕ) (b : List ℕ) where
+  pub load_spoilt : (a : Answer) → Err a ≡ loaded_of side b → reading_of side b ≡ spoilt a
+  unfolding loaded_of
+  load_spoilt a e = go (reading_of side b) e
+    where
+      go : (r : Reading) → Err a ≡ loaded r → r ≡ spoilt a
+      go (spoilt c) q = cc
+      go (holds m xs) q = let z : ◌≡◌ {A = ℕ} 0 1 = cc in absurd (omega arith)
 
-  pub lines_done : s.reply.code ≡ 0 → lines_of s o n ≡ done_lines (loaded o).mode (loaded n).mode (listed (loaded o).table) (listed (loaded n).table) s.report
-  unfolding lines_of
-  lines_done h = rw (eq-eqb s.reply.code 0 h, loaded_tasks o, loaded_tasks n, loaded_mode o, loaded_mode n)
+  module _ (l : Loaded) (is : Ok l ≡ loaded_of side b) where
+    pub load_holds : reading_of side b ≡ holds l.mode (listed l.table)
+    unfolding loaded_of
+    load_holds = go (reading_of side b) is
+      where
+        go : (r : Reading) → Ok l ≡ loaded r → r ≡ holds l.mode (listed l.table)
+        go (spoilt c) q = let z : ◌≡◌ {A = ℕ} 0 1 = cc in absurd (omega arith)
+        go (holds m xs) q =
+            let e : ◌≡◌ {A = Loaded} (record { mode = m; table = table_of xs }) l = cc in
+            subst (λ (k : Loaded). holds m xs ≡ holds k.mode (listed k.table)) e (ap (holds m) (sym (table_listed xs)))
 
--- ---- the two blocks as parts of the input
+    pub load_tabled : Tabled side l.table
+    unfolding loaded_of
+    load_tabled = go (reading_of side b) refl is
+      where
+        go : (r : Reading) → reading_of side b ≡ r → Ok l ≡ loaded r → Tabled side l.table
+        go (spoilt c) p q = let z : ◌≡◌ {A = ℕ} 0 1 = cc in absurd (omega arith)
+        go (holds m xs) p q =
+            let e : ◌≡◌ {A = Loaded} (record { mode = m; table = table_of xs }) l = cc in
+            subst (λ (k : Loaded). Tabled side k.table) e (table_tabled side xs (reading_legal side m b xs p))
 
-module _ (m n : ℕ) (l : List ℕ) (e : n ≡ min m (length l)) where
-  part_front : take (n - 0) l ≡ take m l
-  part_front =
-      ⊎_elim
-      (λ h. take_all (n - 0) l (omega arith) ∙ sym (take_all m l h))
-      (λ h. let q : n - 0 ≡ m = omega arith in ap (λ (k : ℕ). take k l) q)
-      (le_or_lt (length l) m)
+-- ---- what is printed of two blocks, by the verdict of their analysis
 
-  part_back : take (length l - n) (drop n l) ≡ drop m l
-  part_back =
-      take_all (length l - n) (drop n l) (simp length-drop (omega arith))
-      ∙ ⊎_elim
-      (λ h. drop_of_length-le l {i = n} (omega arith) ∙ sym (drop_of_length-le l {i = m} h))
-      (λ h. let q : n ≡ m = omega arith in ap (λ (k : ℕ). drop k l) q)
-      (le_or_lt (length l) m)
+module _ (old new : List ℕ) where
+  pub refusal_lines : (a : Answer) → Err a ≡ verdict_of (found old new).reply → refused_line a ≡ pair_lines old new
+  unfolding pair_lines lines_of
+  refusal_lines a e = go (found old new) e
+    where
+      go : (s : Analysis) → Err a ≡ verdict_of s.reply → refused_line a ≡ lines_of s (reading_of 0 old) (reading_of 1 new)
+      go s p =
+          ⊎_elim
+          (λ t. let z : Err a ≡ Ok tt = rw t at p in cc)
+          (λ f. let z : Err a ≡ Err s.reply = rw f at p in rw f (let q : a ≡ s.reply = cc in ap refused_line q))
+          (either (eqb s.reply.code 0))
 
-module _ (l : List ℕ) (n : ℕ) (e : n ≡ min block_size (length l)) where
-  pub part_old : take (n - 0) (drop 0 l) ≡ old_block l
-  unfolding old_block
-  part_old = part_front block_size n l e
-
-  pub part_new : take (length l - n) (drop n l) ≡ new_block l
-  unfolding new_block
-  part_new = part_back block_size n l e
-
--- ---- what is printed
-
--- of two blocks o and w, where a is the answer of their analysis
-module _ (o w : List ℕ) (a : Answer) (e : a ≡ (found o w).reply) where
-  pub pair_refused : (a.code ≡ 0 → ⊥) → pair_lines o w ≡ refused_line a
-  unfolding pair_lines
-  pair_refused h = lines_refused (found o w) (reading_of 0 o) (reading_of 1 w) (λ z. h (ap (λ (x : Answer). x.code) e ∙ z)) ∙ ap refused_line (sym e)
-
-  pub pair_done : (report : List ℕ) (l n : Loaded) → report ≡ (found o w).report → a.code ≡ 0 → l ≡ loaded_of 0 o → n ≡ loaded_of 1 w
-      → pair_lines o w ≡ done_lines l.mode n.mode (listed l.table) (listed n.table) report
-  unfolding pair_lines loaded_of
-  pair_done report l n f h p q =
-      lines_done (found o w) (reading_of 0 o) (reading_of 1 w) (sym (ap (λ (x : Answer). x.code) e) ∙ h)
-      ∙ ap (λ (x : Loaded). done_lines x.mode (loaded (reading_of 1 w)).mode (listed x.table) (listed (loaded (reading_of 1 w)).table) (found o w).report) (sym p)
-      ∙ ap (λ (x : Loaded). done_lines l.mode x.mode (listed l.table) (listed x.table) (found o w).report) (sym q)
-      ∙ ap (done_lines l.mode n.mode (listed l.table) (listed n.table)) (sym f)
-
--- of an input by its two parts
-pub printed_is : (l o w : List ℕ) → o ≡ old_block l → w ≡ new_block l → pair_lines o w ≡ printed l
-unfolding printed
-printed_is l o w e f = rw (e, f)
-
--- the table of a block is one of its side
-pub load_tabled : (side : ℕ) (b : List ℕ) (o : Loaded) → o ≡ loaded_of side b → Tabled side o.table
-unfolding loaded_of
-load_tabled side b o e = subst (λ (x : Loaded). Tabled side x.table) (sym e) (go (reading_of side b) refl)
-  where
-    none : Legal side []
-    none = record { few = omega arith; rules = λ k h. absurd (omega arith); numbers = λ j k l h. absurd (omega arith); priorities = λ j k l h. absurd (omega arith) }
-
-    go : (r : Reading) → reading_of side b ≡ r → Tabled side (loaded r).table
-    go (spoilt a) q = table_tabled side [] none
-    go (holds mode xs) q = table_tabled side xs (reading_legal side mode b xs q)
-
--- what stands at the front of the local text
-pub text_front : (t t₁ s : List ℕ) (end : ℕ) → end ≡ length s → t₁ ≡ put t 0 s → take (end - 0) (drop 0 t₁) ≡ s
-text_front t t₁ s end h e = rw e (put_front t 0 s (end - 0) (omega arith) (omega arith))
+  pub change_lines : (m k : ℕ) (olds news : List Task) → reading_of 0 old ≡ holds m olds → reading_of 1 new ≡ holds k news → (report : List ℕ)
+      → Ok tt ≡ verdict_of (found old new).reply → report ≡ (found old new).report → pair_lines old new ≡ done_lines m k olds news report
+  unfolding pair_lines lines_of mode_held tasks_held
+  change_lines m k olds news p q report e r = rw (p, q, r) (go (found old new) e)
+    where
+      go : (s : Analysis) → Ok tt ≡ verdict_of s.reply → lines_of s (holds m olds) (holds k news) ≡ done_lines m k olds news s.report
+      go s z =
+          ⊎_elim
+          (λ t. rw t refl)
+          (λ f. let o : Ok tt ≡ Err s.reply = rw f at z in cc)
+          (either (eqb s.reply.code 0))
 
 -- no text is empty, so that the answer 0 says that there was too little room
 pub printed_some : (input : List ℕ) → 1 ≤ length (printed input)

@@ -1,16 +1,12 @@
 -- The rows of a pair in order, and which late task is named. Definitions only.
-use Rattle.std.specs.Prelude.{ℕ, ◌+◌, ◌*◌, length, get_or, drop}
+use Rattle.std.specs.Prelude.{ℕ, ◌+◌, ◌*◌, length, get_or, drop, Ok, Err}
 use mathlib.Core.List.{List, [], ◌∷◌, ◌++◌, flat_map}
 use Rattle.base.specs.Lists.{up_to}
 use Rattle.block.specs.declared.Task.{Task}
-use Rattle.block.specs.declared.Verdict.{Verdict}
-use Rattle.block.specs.declared.Verdict.TheVariants.{Passed, Refused}
+use Rattle.block.specs.Answers.{Verdict, answer}
 use Rattle.block.specs.Format.{most_tasks}
-use Rattle.block.specs.Answers.{answer}
 use Rattle.block.specs.Checks.{no_task}
-use Rattle.row.specs.declared.Judged.{Judged}
-use Rattle.row.specs.declared.Judged.TheVariants.{Timely, Late}
-use Rattle.row.specs.Row.{row_of}
+use Rattle.row.specs.Row.{Judged, row_of}
 
 -- three numbers a row
 abbrev pub row_size : ℕ
@@ -21,8 +17,8 @@ abbrev pub report_room : ℕ
 report_room = row_size * (most_tasks + most_tasks)
 
 abbrev pub row_numbers : Judged → List ℕ
-row_numbers (Timely r) = r.first ∷ r.second ∷ r.third ∷ []
-row_numbers (Late d) = 0 ∷ 0 ∷ 0 ∷ []
+row_numbers (Ok r) = r.first ∷ r.second ∷ r.third ∷ []
+row_numbers (Err d) = 0 ∷ 0 ∷ 0 ∷ []
 
 -- old records in block order, then new ones
 abbrev pub rows_of : List Task → List Task → List ℕ
@@ -30,8 +26,8 @@ rows_of olds news = flat_map (λ i. row_numbers (row_of olds news i)) (olds ++ n
 
 -- a late task is refused: code, side, record, and the detail of its lateness
 abbrev pub late_check : ℕ → ℕ → ℕ → Judged → Verdict
-late_check code side k (Timely r) = Passed
-late_check code side k (Late d) = Refused (answer code side k d)
+late_check code side k (Ok r) = Ok tt
+late_check code side k (Err d) = Err (answer code side k d)
 
 -- old tasks in time, then new ones
 abbrev pub late_checks : List Task → List Task → List Verdict
@@ -41,5 +37,5 @@ late_checks olds news =
 
 -- what a report then holds: the rows in front where every task is in time, else what it held
 abbrev pub reported : Verdict → List ℕ → List ℕ → List ℕ
-reported Passed rows report = rows ++ drop (length rows) report
-reported (Refused a) rows report = report
+reported (Ok u) rows report = rows ++ drop (length rows) report
+reported (Err a) rows report = report

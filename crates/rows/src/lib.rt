@@ -3,18 +3,16 @@
 #![tactic(auto)]
 
 ghost use Rattle.std.specs.Prelude.{◌≡◌, ◌+◌, ◌*◌, ◌<◌, ◌≤◌, length};
-ghost use Rattle.std.proofs.lemmas.List.Edits.{sets};
 ghost use Rattle.block.specs.Answers.{first_of};
 ghost use Rattle.block.specs.Block.{listed};
-ghost use Rattle.block.specs.Legal.{Tabled};
-ghost use Rattle.above.specs.Roll.{term_room};
-ghost use Rattle.row.specs.declared.Judged.TheVariants.{Timely, Late};
-ghost use Rattle.rows.specs.Rows.{row_size, report_room, row_numbers, rows_of, late_checks, reported};
-ghost use Rattle.rows.specs.Fill.{Told, check_at, Filled};
+ghost use Rattle.block.specs.Legal.{Legal, Tabled};
+ghost use Rattle.above.specs.Roll.{Sound};
+ghost use Rattle.rows.specs.Rows.{row_size, rows_of, late_checks, reported};
+ghost use Rattle.rows.specs.Fill.{row_by_rolls, Filled};
 
-use above::{ROLL_ROOM, TERM_ROOM};
-use block::{Answer, MOST_TASKS, Table, Verdict};
-use row::{Judged, Row};
+use above::Rolled;
+use block::{Answer, Code, MOST_TASKS, Table, Task, Verdict};
+use judge::{Judging, Room};
 
 // Three numbers a row.
 pub const ROW_SIZE: usize = 3;
@@ -22,79 +20,51 @@ pub const ROW_SIZE: usize = 3;
 // Room for the rows of any pair.
 pub const REPORT_ROOM: usize = ROW_SIZE * (MOST_TASKS + MOST_TASKS);
 
-fn place(j: usize) -> u32
-    requires { j < 4294967296 }
-    ensures { result ≡ j }
+// The code of a late task.
+fn late_code(side: u32) -> u32
+    requires { side ≤ 1 }
+    ensures { result ≡ 9 + side }
 {
-    j as u32
+    let code = if side == 0 {
+        Code::OldLate
+    } else {
+        Code::NewLate
+    };
+    code as u32
 }
 
-// The three numbers of a row, written at a place.
-fn put_row(numbers: &mut [u32], at: usize, r: Row)
-    requires { at + 2 < length numbers.old }
-    ensures { numbers.new ≡ sets numbers.old at (row_numbers (Timely r)) }
-{
-    numbers[at] = r.first;
-    numbers[at + 1] = r.second;
-    numbers[at + 2] = r.third;
-}
-
-// The refusal of the task at place j, which is late by the detail d.
-fn late(n: usize, j: usize, d: u32) -> Verdict
-    requires { j < 4294967296 }
-    ensures { result ≡ check_at n j (Late d) }
-{
-    if j < n {
-        return Verdict::Refused(Answer {
-            code: 9,
-            side: 0,
-            record: place(j),
-            detail: d,
-        });
-    }
-    Verdict::Refused(Answer {
-        code: 10,
-        side: 1,
-        record: place(j - n),
-        detail: d,
-    })
-}
-
-// The rows of a pair, put to the front of the numbers, or the first late task.
+// The rows of the tasks of one side, put to the front of the numbers, or the refusal of the first late one.
 fn fill(
     numbers: &mut [u32],
-    before: &mut [u64],
-    after: &mut [u64],
-    olds: &[u64],
-    news: &[u64],
-    old: Table,
-    new: Table,
+    room: &mut Room,
+    old: &[Rolled],
+    new: &[Rolled],
+    tasks: &[Task],
+    side: u32,
 ) -> Verdict
-    requires told { Told 0 old olds.now × Told 1 new news.now }
-    requires room { (term_room ≤ length before.old) × (term_room ≤ length after.old) × (report_room ≤ length numbers.old) }
-    ensures { (length numbers.new ≡ length numbers.old) × Filled (listed old) (listed new) numbers.new result }
+    requires sound { Sound old.now × Sound new.now × (side ≤ 1) × Legal side tasks.now }
+    requires room { row_size * length tasks.now ≤ length numbers.old }
+    ensures { Filled side (row_by_rolls old.now new.now) tasks.now numbers.new result }
 {
-    let n = old.count;
-    let k = new.count;
-    let m = n + k;
-    let mut j: usize = 0;
-    while j < m {
-        let i = if j < n {
-            old.tasks[j]
-        } else {
-            new.tasks[j - n]
-        };
-        match judge::row_of(before, after, olds, n, news, k, i) {
-            Judged::Timely(r) => {
-                put_row(numbers, ROW_SIZE * j, r);
+    for (j, i) in tasks.iter().enumerate() {
+        let judging = Judging { old, new, task: *i };
+        // not `map_err(..)?`: its closure takes two more locals and a law
+        match judging.row_of(room) {
+            Ok(r) => {
+                let at = ROW_SIZE * j;
+                numbers[at..at + ROW_SIZE].copy_from_slice(&[r.first, r.second, r.third]);
             }
-            Judged::Late(d) => {
-                return late(n, j, d);
+            Err(detail) => {
+                return Err(Answer {
+                    code: late_code(side),
+                    side,
+                    record: j as u32,
+                    detail,
+                });
             }
         }
-        j += 1;
     }
-    Verdict::Passed
+    Ok(())
 }
 
 // The rows of a pair of tables, put to the front of the report, or the first late task.
@@ -102,25 +72,20 @@ pub fn rows_of(old: Table, new: Table, report: &mut [u32]) -> Verdict
     requires { Tabled 0 old × Tabled 1 new × (row_size * (old.count + new.count) ≤ length report.old) }
     ensures { (result ≡ first_of (late_checks (listed old) (listed new))) × (report.new ≡ reported result (rows_of (listed old) (listed new)) report.old) }
 {
-    let mut olds = [0u64; ROLL_ROOM];
-    let mut news = [0u64; ROLL_ROOM];
-    let mut before = [0u64; TERM_ROOM];
-    let mut after = [0u64; TERM_ROOM];
+    let olds = &old.tasks[..old.count];
+    let news = &new.tasks[..new.count];
+    let mut old_rolls = [Rolled::NONE; MOST_TASKS];
+    let mut new_rolls = [Rolled::NONE; MOST_TASKS];
+    above::roll(&mut old_rolls, olds);
+    above::roll(&mut new_rolls, news);
+    let old_rolls = &old_rolls[..old.count];
+    let new_rolls = &new_rolls[..new.count];
+    let mut room = Room::EMPTY;
     let mut numbers = [0u32; REPORT_ROOM];
-    above::roll(&mut olds, old);
-    above::roll(&mut news, new);
-    let verdict = fill(
-        &mut numbers,
-        &mut before,
-        &mut after,
-        &olds,
-        &news,
-        old,
-        new,
-    );
-    if let Verdict::Passed = verdict {
-        let size = ROW_SIZE * (old.count + new.count);
-        base::copy_numbers(report, &numbers[0..size]);
-    }
-    verdict
+    let (front, back) = numbers.split_at_mut(ROW_SIZE * old.count);
+    fill(front, &mut room, old_rolls, new_rolls, olds, 0)?;
+    fill(back, &mut room, old_rolls, new_rolls, news, 1)?;
+    let size = ROW_SIZE * (old.count + new.count);
+    report[..size].copy_from_slice(&numbers[..size]);
+    Ok(())
 }

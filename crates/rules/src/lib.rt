@@ -2,61 +2,60 @@
 
 #![tactic(auto)]
 
-ghost use Rattle.std.specs.Prelude.{◌≡◌, min};
-ghost use Rattle.block.specs.Answers.{refusal, first_of};
+ghost use Rattle.std.specs.Prelude.{ℕ, ◌≡◌, ◌<◌, min};
+ghost use Rattle.base.specs.Lists.{up_to};
+ghost use Rattle.block.specs.Answers.{Verdict, number_of, refusal, refuse, first_of};
 ghost use Rattle.block.specs.Checks.{kind_on, task_checks};
 
-use block::{Answer, Task, Verdict};
+use block::{Answer, Code, Task, Verdict};
 
-fn least(side: u32) -> u32
-    ensures { result ≡ min side 2 }
+// A check refuses where what is wrong holds, and then names the side only if it is 0 or 1.
+pub fn refuse(wrong: bool, code: Code, side: u32, place: u32) -> Verdict
+    ensures { result ≡ refuse wrong (refusal (number_of code) side place) }
 {
-    if side < 2 { side } else { 2 }
+    if wrong {
+        return Err(Answer {
+            code: code as u32,
+            side: side.min(2),
+            record: place,
+            detail: 0,
+        });
+    }
+    Ok(())
 }
 
-pub fn refused(code: u32, side: u32, place: u32) -> Verdict
-    ensures { result ≡ Verdict.Refused (refusal code side place) }
-{
-    Verdict::Refused(Answer {
-        code,
-        side: least(side),
-        record: place,
-        detail: 0,
-    })
-}
-
+// By the number of a record, which may be that of no kind (decision B1).
+#[tactic(auto, unfolding(block::specs::Checks::kind_on))]
 fn kind_on(side: u32, kind: u8) -> bool
     ensures { result ≡ kind_on side kind }
 {
-    if side == 0 {
-        return kind < 2;
-    }
-    kind == 2
+    if side == 0 { kind < 2 } else { kind == 2 }
 }
 
 // The rules of a task of its own, in the paper's order.
+#[tactic(auto, unfolding(block::specs::Answers::first_of, block::specs::Checks::task_checks))]
 pub fn check_task(side: u32, k: u32, x: Task) -> Verdict
     ensures { result ≡ first_of (task_checks side k x) }
 {
-    if !kind_on(side, x.kind) {
-        return refused(5, side, k);
+    refuse(!kind_on(side, x.kind), Code::Rule, side, k)?;
+    refuse(x.period == 0, Code::Rule, side, k)?;
+    refuse(
+        x.execution == 0 || x.deadline < x.execution,
+        Code::Rule,
+        side,
+        k,
+    )?;
+    refuse(x.period < x.deadline, Code::Rule, side, k)?;
+    refuse(side == 0 && x.offset != 0, Code::Rule, side, k)
+}
+
+// Of the checks 0, 1, .. , n - 1 the first that refuses decides.
+pub fn first_refusal<F: Fn(usize) -> Verdict>(n: usize, check: F) -> Verdict
+    requires { (k : ℕ) → k < n → F.pre check k }
+    ensures { (f : ℕ → Verdict) → ((k : ℕ) (v : Verdict) → k < n → F.post check k v → v ≡ f k) → result ≡ first_of (up_to f n) }
+{
+    for k in 0..n {
+        check(k)?;
     }
-    if x.period == 0 {
-        return refused(5, side, k);
-    }
-    if x.execution == 0 {
-        return refused(5, side, k);
-    }
-    if x.deadline < x.execution {
-        return refused(5, side, k);
-    }
-    if x.period < x.deadline {
-        return refused(5, side, k);
-    }
-    if side == 0 {
-        if x.offset != 0 {
-            return refused(5, side, k);
-        }
-    }
-    Verdict::Passed
+    Ok(())
 }

@@ -11,7 +11,8 @@ use lib.Dec.{eqb}
 use Rattle.base.specs.Lists.{up_to}
 use Rattle.base.specs.Sums.{sum}
 use Rattle.block.specs.declared.Task.{Task}
-use Rattle.window.specs.Order.{completed, aborted, new, kind_of, rank}
+use Rattle.block.specs.declared.Kind.TheVariants.{Completed, Aborted, New}
+use Rattle.window.specs.Order.{kind_of, rank}
 use Rattle.pair.specs.Cases.{completed_task, new_task, olds_a, news_a, olds_f, olds_g}
 use Rattle.run.specs.Run.{Slot, idle, job, Run, service, MayCome, IsRun}
 use Rattle.run.specs.Promise.{task, NotCut, Takes}
@@ -50,10 +51,10 @@ a_not_less k = omega (arith, k.ends)
 
 -- ---- no old job comes at the request, and only aborted ones can be cut off
 
-none_at_request : (q y : ℕ) → (MayCome completed q y q → ⊥) × (MayCome aborted q y q → ⊥)
+none_at_request : (q y : ℕ) → (MayCome Completed q y q → ⊥) × (MayCome Aborted q y q → ⊥)
 none_at_request q y = (λ h. omega arith, λ h. omega arith)
 
-others_whole : (R : Run) (i r : ℕ) → NotCut completed R i r × NotCut new R i r
+others_whole : (R : Run) (i r : ℕ) → NotCut Completed R i r × NotCut New R i r
 others_whole R i r = (tt, tt)
 
 -- ---- case f: the completed task stands at place 1 under an aborted one, and its row has 8 at phase 4
@@ -112,7 +113,7 @@ f_run q p = built_run 2 (task olds_f) f_sound q f_need (record {
 })
 
 -- with the request at 4 the aborted job has just ended, and the other's 8 is reached
-f_reached : NotCut aborted (f_built 4) 0 0 × (service (f_built 4) 1 0 7 ≡ 3) × (service (f_built 4) 1 0 8 ≡ 4)
+f_reached : NotCut Aborted (f_built 4) 0 0 × (service (f_built 4) 1 0 7 ≡ 3) × (service (f_built 4) 1 0 8 ≡ 4)
 unfolding service sum built hist best earliest rank f_need
 f_reached = (refl, refl, refl)
 

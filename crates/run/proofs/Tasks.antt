@@ -10,14 +10,16 @@ use Rattle.block.specs.declared.Task.{Task}
 use Rattle.block.specs.Checks.{no_task}
 use Rattle.block.specs.Legal.{Legal}
 use Rattle.window.proofs.Sides.{side_old, side_new}
-use Rattle.window.specs.Order.{Kind, completed, aborted, new, rank}
+use Rattle.block.specs.declared.Kind.{Kind}
+use Rattle.block.specs.declared.Kind.TheVariants.{Completed, Aborted, New}
+use Rattle.window.specs.Order.{rank}
 use Rattle.run.specs.Promise.{count, task}
 
 -- by kind, with the equation
-pub by_kind {ℓ} : (P : Kind → Type ℓ) (k : Kind) → (k ≡ completed → P completed) → (k ≡ aborted → P aborted) → (k ≡ new → P new) → P k
-by_kind P completed a b c = a refl
-by_kind P aborted a b c = b refl
-by_kind P new a b c = c refl
+pub by_kind {ℓ} : (P : Kind → Type ℓ) (k : Kind) → (k ≡ Completed → P Completed) → (k ≡ Aborted → P Aborted) → (k ≡ New → P New) → P k
+by_kind P Completed a b c = a refl
+by_kind P Aborted a b c = b refl
+by_kind P New a b c = c refl
 
 -- what the proof uses of tasks
 pub record Sound (n : ℕ) (tk : ℕ → Task) : Type 0 where

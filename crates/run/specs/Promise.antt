@@ -3,7 +3,9 @@ use Rattle.std.specs.Prelude.{ℕ, ◌+◌, ◌*◌, ◌<◌, ◌≡◌, List, [
 use Rattle.block.specs.declared.Task.{Task}
 use Rattle.block.specs.Checks.{no_task}
 use Rattle.block.specs.Block.{Reading, holds, spoilt, reading_of}
-use Rattle.window.specs.Order.{Kind, completed, aborted, new, kind_of, rank}
+use Rattle.block.specs.declared.Kind.{Kind}
+use Rattle.block.specs.declared.Kind.TheVariants.{Completed, Aborted, New}
+use Rattle.window.specs.Order.{kind_of, rank}
 use Rattle.rows.specs.Rows.{row_size}
 use Rattle.pair.specs.Analysis.{analyse_of}
 use Rattle.run.specs.Run.{Run, Job, service, Ended, IsRun}
@@ -36,9 +38,9 @@ first_number report i = get_or report (first_place i) 0
 
 -- the request did not cut it off: of an aborted task's jobs, those that had ended by then
 abbrev pub NotCut : Kind → Run → ℕ → ℕ → Type 0
-NotCut completed R i r = Unit {0}
-NotCut aborted R i r = Ended R i r R.request
-NotCut new R i r = Unit {0}
+NotCut Completed R i r = Unit {0}
+NotCut Aborted R i r = Ended R i r R.request
+NotCut New R i r = Unit {0}
 
 -- it ends exactly t ticks after its release, and not a tick sooner
 pub record Takes (R : Run) (i r t : ℕ) : Type 0 where
@@ -53,7 +55,7 @@ AllEnd n tk number = (R : Run) → IsRun n tk R → (i r : ℕ) → i < n → Jo
 
 -- no aborted task is above task i
 abbrev pub NoAbortedAbove : (n : ℕ) → (ℕ → Task) → ℕ → Type 0
-NoAbortedAbove n tk i = (j : ℕ) → j < n → rank (tk j) < rank (tk i) → kind_of (tk j) ≡ aborted → ⊥
+NoAbortedAbove n tk i = (j : ℕ) → j < n → rank (tk j) < rank (tk i) → kind_of (tk j) ≡ Aborted → ⊥
 
 -- a run, and in it a job of task i that takes exactly t ticks
 pub record Reached (n : ℕ) (tk : ℕ → Task) (i t : ℕ) : Type 0 where
@@ -66,7 +68,7 @@ pub record Reached (n : ℕ) (tk : ℕ → Task) (i t : ℕ) : Type 0 where
 -- both halves; the second: for a completed task with no aborted task above it the number is reached
 pub record Bounds (n : ℕ) (tk : ℕ → Task) (number : ℕ → ℕ) : Type 0 where
   pub within : AllEnd n tk number
-  pub exact : (i : ℕ) → i < n → kind_of (tk i) ≡ completed → NoAbortedAbove n tk i → Reached n tk i (number i)
+  pub exact : (i : ℕ) → i < n → kind_of (tk i) ≡ Completed → NoAbortedAbove n tk i → Reached n tk i (number i)
 
 -- whenever the analysis answers 0, the first numbers of the rows that its report then holds bound the runs of the tasks in the blocks
 abbrev pub Promise : List ℕ → List ℕ → List ℕ → Type 0

@@ -3,7 +3,9 @@
 use Rattle.std.specs.Prelude.{ℕ, ◌+◌, ◌≤◌, ◌<◌, ◌≡◌, cond, ◌&&◌, eqb}
 use Rattle.base.specs.Sums.{sum}
 use Rattle.block.specs.declared.Task.{Task}
-use Rattle.window.specs.Order.{Kind, completed, aborted, new, kind_of, rank}
+use Rattle.block.specs.declared.Kind.{Kind}
+use Rattle.block.specs.declared.Kind.TheVariants.{Completed, Aborted, New}
+use Rattle.window.specs.Order.{kind_of, rank}
 
 -- ---- what there is in a run
 
@@ -27,9 +29,9 @@ Job R i r = 0 < R.need i r
 
 -- when a job may come, by kind: the request q, the offset y, the tick r. Old ones only before the request, new ones no sooner than their offset after it
 abbrev pub MayCome : Kind → ℕ → ℕ → ℕ → Type 0
-MayCome completed q y r = r < q
-MayCome aborted q y r = r < q
-MayCome new q y r = q + y ≤ r
+MayCome Completed q y r = r < q
+MayCome Aborted q y r = r < q
+MayCome New q y r = q + y ≤ r
 
 pub record Releases (n : ℕ) (tk : ℕ → Task) (R : Run) : Type 0 where
   -- a job needs at most C ticks
@@ -58,9 +60,9 @@ Ended R i r t = service R i r t ≡ R.need i r
 
 -- at the request q every aborted job vanishes; no other does
 abbrev pub Present : Kind → ℕ → ℕ → Type 0
-Present completed q t = Unit {0}
-Present aborted q t = t < q
-Present new q t = Unit {0}
+Present Completed q t = Unit {0}
+Present Aborted q t = t < q
+Present New q t = Unit {0}
 
 -- the job of task i released at r is pending in tick t: it has come, has not had all that it needs, has not vanished
 pub record Pending (tk : ℕ → Task) (R : Run) (i r t : ℕ) : Type 0 where

@@ -2,25 +2,21 @@
 
 #![tactic(auto)]
 
-ghost use Rattle.std.specs.Prelude.{OnOk};
+ghost use Rattle.std.specs.Prelude.{◌≡◌, ◌<◌, OnOk, MatchOption, cond, [], ◌∷◌, length};
 ghost use Rattle.std.specs.Io.KnownBytes.{Appends};
-ghost use Rattle.says.specs.Said.{said_numbers, said_answer, said_kept, said_outcome, said_back, said_check, said_task, said_table, said_loaded, said_entry};
+ghost use Rattle.std.specs.List.{FoldsTo};
+ghost use Rattle.says.specs.Lines.{lines_of, Answers};
+ghost use Rattle.says.specs.Said.{said_numbers, said_answer, said_outcome, said_check, said_task, said_table, said_loading, said_loaded, said_entry};
 
-use block::{Answer, BLOCK_SIZE, CHECK_PLACE, LIST_SIZE, Loaded, MOST_TASKS, Table, Task};
+use block::{Answer, BLOCK_SIZE, CHECK_PLACE, DONE, LIST_SIZE, Loaded, MOST_TASKS, Table, Task};
 use std::io;
 use std::io::Write;
-
-pub fn say<W: Write>(to: &mut W, text: &[u8]) -> io::Result<()>
-    ensures { OnOk result (Appends (W.contents to.old) (W.contents to.new) text.now) }
-{
-    to.write_all(text)
-}
 
 // A text, then each number with a space before it.
 pub fn say_numbers<W: Write>(to: &mut W, text: &[u8], numbers: &[u32]) -> io::Result<()>
     ensures { OnOk result (Appends (W.contents to.old) (W.contents to.new) (said_numbers text.now numbers.now)) }
 {
-    say(to, text)?;
+    to.write_all(text)?;
     for number in numbers {
         write!(to, " {number}")?;
     }
@@ -30,17 +26,14 @@ pub fn say_numbers<W: Write>(to: &mut W, text: &[u8], numbers: &[u32]) -> io::Re
 fn say_answer<W: Write>(to: &mut W, a: Answer) -> io::Result<()>
     ensures { OnOk result (Appends (W.contents to.old) (W.contents to.new) (said_answer a)) }
 {
-    let numbers = [a.code, a.side, a.record, a.detail];
-    say_numbers(to, b":", &numbers)
+    write!(to, ": {} {} {} {}", a.code, a.side, a.record, a.detail)
 }
 
-pub fn say_kept<W: Write>(to: &mut W, kept: bool) -> io::Result<()>
-    ensures { OnOk result (Appends (W.contents to.old) (W.contents to.new) (said_kept kept)) }
+// Of two texts the first where a fact holds, and else the second.
+pub fn say_whether<W: Write>(to: &mut W, holds: bool, yes: &[u8], no: &[u8]) -> io::Result<()>
+    ensures { OnOk result (Appends (W.contents to.old) (W.contents to.new) (cond holds yes.now no.now)) }
 {
-    if kept {
-        return say(to, b" kept");
-    }
-    say(to, b" changed")
+    to.write_all(if holds { yes } else { no })
 }
 
 // An answer, and whether the lent memory is as it was.
@@ -48,16 +41,7 @@ pub fn say_outcome<W: Write>(to: &mut W, a: Answer, kept: bool) -> io::Result<()
     ensures { OnOk result (Appends (W.contents to.old) (W.contents to.new) (said_outcome a kept)) }
 {
     say_answer(to, a)?;
-    say_kept(to, kept)
-}
-
-pub fn say_back<W: Write>(to: &mut W, same: bool) -> io::Result<()>
-    ensures { OnOk result (Appends (W.contents to.old) (W.contents to.new) (said_back same)) }
-{
-    if same {
-        return say(to, b", back same");
-    }
-    say(to, b", back other")
+    say_whether(to, kept, b" kept", b" changed")
 }
 
 // The check of a whole block.
@@ -74,42 +58,78 @@ pub fn say_check<W: Write>(to: &mut W, bytes: &[u8]) -> io::Result<()>
 fn say_task<W: Write>(to: &mut W, x: Task) -> io::Result<()>
     ensures { OnOk result (Appends (W.contents to.old) (W.contents to.new) (said_task x)) }
 {
-    let mut entry = [0u32; LIST_SIZE];
+    let mut entry = [0; LIST_SIZE];
     numbers::put_numbers(&mut entry, x);
     say_numbers(to, b",", &entry)
 }
 
 // The count, and the first, the second and the last of a table's places.
-fn say_table<W: Write>(to: &mut W, table: Table) -> io::Result<()>
-    ensures { OnOk result (Appends (W.contents to.old) (W.contents to.new) (said_table table)) }
+fn say_table<W: Write>(to: &mut W, table: &Table) -> io::Result<()>
+    ensures { OnOk result (Appends (W.contents to.old) (W.contents to.new) (said_table table.now)) }
 {
-    let tasks = table.tasks;
-    let count = table.count;
-    write!(to, ", tasks {count}")?;
-    say_task(to, tasks[0])?;
-    say_task(to, tasks[1])?;
-    say_task(to, tasks[MOST_TASKS - 1])
+    write!(to, ", tasks {}", table.count)?;
+    say_task(to, table.tasks[0])?;
+    say_task(to, table.tasks[1])?;
+    say_task(to, table.tasks[MOST_TASKS - 1])
 }
 
-// A loading: the answer, the mode number, the table.
-pub fn say_loaded<W: Write>(to: &mut W, loaded: Loaded) -> io::Result<()>
+fn say_loading<W: Write>(to: &mut W, a: Answer, mode: u16, table: &Table) -> io::Result<()>
+    ensures { OnOk result (Appends (W.contents to.old) (W.contents to.new) (said_loading a mode table.now)) }
+{
+    say_answer(to, a)?;
+    write!(to, ", mode {mode}")?;
+    say_table(to, table)
+}
+
+// What a loading gives: the answer, the mode number, the table; of a refusal mode 0 and the table without tasks.
+pub fn say_loaded<W: Write>(to: &mut W, loaded: Result<Loaded, Answer>) -> io::Result<()>
     ensures { OnOk result (Appends (W.contents to.old) (W.contents to.new) (said_loaded loaded)) }
 {
-    say_answer(to, loaded.answer)?;
-    let mode = loaded.mode;
-    write!(to, ", mode {mode}")?;
-    say_table(to, loaded.table)
+    match loaded {
+        Ok(Loaded { mode, table }) => say_loading(to, DONE, mode, &table),
+        Err(a) => say_loading(to, a, 0, &tasks::no_tasks()),
+    }
 }
 
 // Task k of a list, where it has one.
 pub fn say_entry<W: Write>(to: &mut W, list: &[u32], k: usize) -> io::Result<()>
     ensures { OnOk result (Appends (W.contents to.old) (W.contents to.new) (said_entry list.now k)) }
 {
-    if k < MOST_TASKS {
-        let at = LIST_SIZE * k;
-        if at + LIST_SIZE <= list.len() {
-            say_numbers(to, b",", &list[at..at + LIST_SIZE])?;
-        }
+    if k < MOST_TASKS
+        && let Some(entry) = list.get(LIST_SIZE * k..LIST_SIZE * k + LIST_SIZE)
+    {
+        say_numbers(to, b",", entry)?;
+    }
+    Ok(())
+}
+
+// The first line of a text, and what stands behind its line feed.
+fn first_line(text: &[u8]) -> Option<(&[u8], &[u8])>
+    ensures { MatchOption result (text.now ≡ []) (λ cut. (lines_of text.now ≡ cut.0.now ∷ lines_of cut.1.now) × (length cut.1.now < length text.now)) }
+{
+    match text.iter().position(|b| *b == b'\n') {
+        Some(end) => Some((&text[..end], &text[end + 1..])),
+        None if text.is_empty() => None,
+        None => Some((text, &[])),
+    }
+}
+
+// Each line of a text as it stands, behind it what `answer` prints, and a line feed.
+pub fn say_lines<W: Write, F: FnMut(&mut W, &[u8]) -> io::Result<()>>(
+    to: &mut W,
+    text: &[u8],
+    mut answer: F,
+) -> io::Result<()>
+    requires { F.IsAlwaysCallable answer }
+    ensures { OnOk result ((last : F) × FoldsTo (Answers W.contents F.FnMut) (answer, to.old) (lines_of text.now) (last, to.new)) }
+{
+    // Not `for line in text.split_inclusive(..)`: in a generic function the check can't state such a loop's invariant.
+    let mut rest = text;
+    while let Some((line, behind)) = first_line(rest) {
+        to.write_all(line)?;
+        answer(to, line)?;
+        to.write_all(b"\n")?;
+        rest = behind;
     }
     Ok(())
 }

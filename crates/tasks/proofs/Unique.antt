@@ -19,5 +19,5 @@ pub table_of_unique : (κs : Lfts 1) (a : Dens κs table_of_kinds.ps) (r r' : (r
 table_of_unique κs a r r' s s' p q = p ∙ sym q
 
 pub put_tasks_unique : (κs : Lfts 2) (a : Dens κs put_tasks_kinds.ps) (r r' : (res_t put_tasks_kinds.r κs).Denot) (s s' : AtExit (ended_of 2 put_tasks_kinds.ps put_tasks_kinds.r) κs)
-    → put_tasks.Post κs a r s → put_tasks.Post κs a r' s' → s.1.1.0.now ≡ s'.1.1.0.now
+    → put_tasks.Post κs a r s → put_tasks.Post κs a r' s' → s.1.0.now ≡ s'.1.0.now
 put_tasks_unique κs a r r' s s' p q = p ∙ sym q

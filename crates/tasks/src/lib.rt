@@ -3,10 +3,11 @@
 #![tactic(auto)]
 
 ghost use Rattle.std.specs.Prelude.{◌≡◌, [], ◌++◌, ◌≤◌, ◌*◌, length, drop};
-ghost use Rattle.block.specs.Format.{block_size, most_tasks, list_size};
+ghost use Rattle.block.specs.Format.{list_size};
 ghost use Rattle.block.specs.Block.{tasks_in, list_of, table_of};
 
 use block::{LIST_SIZE, MOST_TASKS, Table, Task};
+use records::Records;
 
 pub fn no_tasks() -> Table
     ensures { result ≡ table_of [] }
@@ -26,31 +27,26 @@ pub fn no_tasks() -> Table
     }
 }
 
-// The table of the first n records.
-pub fn table_of(block: &[u8], n: usize) -> Table
-    requires { (length block.now ≡ block_size) × (n ≤ most_tasks) }
-    ensures { result ≡ table_of (tasks_in block.now n) }
+// The table of a block's records.
+#[tactic(auto, unfolding(base::specs::Lists::up_to))]
+pub fn table_of(records: Records) -> Table
+    ensures { result ≡ table_of (tasks_in records.entry.block.now records.entry.count) }
 {
     let mut table = no_tasks();
-    table.count = n;
-    let mut k: usize = 0;
-    while k < n {
-        table.tasks[k] = records::task_at(block, k);
-        k += 1;
+    table.count = records.count;
+    for k in 0..records.count {
+        table.tasks[k] = records.task(k);
     }
     table
 }
 
-// The tasks of the first n records, put to the front of a list.
-pub fn put_tasks(block: &[u8], n: usize, list: &mut [u32])
-    requires { (length block.now ≡ block_size) × (n ≤ most_tasks) × (list_size * n ≤ length list.old) }
-    ensures { list.new ≡ list_of (tasks_in block.now n) ++ drop (list_size * n) list.old }
+// The tasks of a block's records, put to the front of a list.
+pub fn put_tasks(records: Records, list: &mut [u32])
+    requires { list_size * records.count ≤ length list.old }
+    ensures { list.new ≡ list_of (tasks_in records.entry.block.now records.entry.count) ++ drop (list_size * records.entry.count) list.old }
 {
-    let mut k: usize = 0;
-    while k < n {
-        let task = records::task_at(block, k);
+    for k in 0..records.count {
         let at = LIST_SIZE * k;
-        numbers::put_numbers(&mut list[at..at + LIST_SIZE], task);
-        k += 1;
+        numbers::put_numbers(&mut list[at..at + LIST_SIZE], records.task(k));
     }
 }

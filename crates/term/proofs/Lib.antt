@@ -1,2 +1,3 @@
+pub mod Shares
 pub mod Terms
 pub mod Unique

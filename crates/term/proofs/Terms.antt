@@ -1,110 +1,126 @@
--- Laws of flat demands: they rise with t, agree before both requests, and do not grow where the old terms do not.
-use Prim.Native.Nat.{ℕ, zero, suc, ◌+◌, ◌*◌, ◌%◌, ◌-◌, ◌/◌, ◌≤◌, ◌<◌, min}
-use mathlib.Core.Path.{◌≡◌}
+-- Laws of flat demands: they rise with t, agree before both requests, and do not grow where the old tasks do not.
+use Prim.Native.Nat.{ℕ, suc, ◌+◌, ◌*◌, ◌%◌, ◌-◌, ◌/◌, ◌≤◌, ◌<◌, min, max}
+use mathlib.Core.Path.{◌≡◌, refl}
 use mathlib.Core.Bool.{Bool, true, false, cond}
-use mathlib.Core.List.{List}
+use mathlib.Core.List.{List, [], ◌∷◌}
 use mathlib.Core.Logic.{⊎_elim}
-use lib.ListN.{get_or}
-use lib.Dec.{eqb, ltb}
+use lib.ListN.{length, get_or, drop}
+use lib.Dec.{ltb}
 use borrow.Author.Tests.{lt-ltb, le-ltb}
 use native.Mathlib.Omega.{arith}
 use native.Mathlib.Numerals.{add-one}
+use lib.Seq.{drop-cons}
+use Rattle.std.proofs.lemmas.List.{drop_all}
 use native.Mathlib.Nat.{mod-lt, suc-mul, div-add-mod'}
-use Rattle.base.specs.Sums.{sum}
+use Rattle.std.specs.Prelude.{All, fold}
+use Rattle.base.specs.Sums.{sum_of}
 use Rattle.base.specs.Numbers.{jobs_in, cut_in}
-use Rattle.base.proofs.Sums.{sum_le}
+use Rattle.base.proofs.Sums.{list_mono}
 use Rattle.base.proofs.Numbers.{jobs_rise, cut_rises, jobs_whole, jobs_begun, cut_is}
 use Rattle.base.proofs.Search.{le_or_lt}
 use Rattle.base.proofs.Flat.{jobs_flat, cut_flat}
-use Rattle.term.specs.Terms.{Ready, share_of, before, after, old_sum, new_sum, flat_demand, grows_by, next_of, next_phase, prev_of, prev_phase}
+use Rattle.term.specs.declared.Old.{Old}
+use Rattle.term.specs.declared.New.{New}
+use Rattle.term.specs.Terms.{Good, Ready, before, after, old_sum, new_sum, flat_demand, grows_by, next_of, next_phase, prev_of, prev_phase}
 
--- the first terms of a list that is ready are ready
-pub ready_less : (l : List ℕ) (j n : ℕ) → j ≤ n → Ready l n → Ready l j
-ready_less l j n h r = record { room = omega (arith, r.room); few = omega (arith, r.few); good = λ i k. r.good i (omega arith) }
+-- each half of two lists that are ready is so by itself
+pub ready_old : (o : List Old) (w : List New) → Ready o w → Ready o []
+ready_old o w r = record { few_old = r.few_old; few_new = omega arith; good_old = r.good_old; good_new = λ k d h. absurd (omega arith) }
 
-pub sum_more : (f : ℕ → ℕ) (n : ℕ) → sum (n + 1) f ≡ sum n f + f n
-unfolding sum
-sum_more f n = rw add-one
+pub ready_new : (o : List Old) (w : List New) → Ready o w → Ready [] w
+ready_new o w r = record { few_old = omega arith; few_new = r.few_new; good_old = λ k d h. absurd (omega arith); good_new = r.good_new }
+
+module _ {A : Type 0} (P : A → Type 0) (x : A) (xs : List A) (all : All P (x ∷ xs)) where
+  all_head : P x
+  all_head = all 0 x (omega arith)
+
+  all_tail : All P xs
+  all_tail k d h = all (suc k) d (omega arith)
 
 cond_le : (b : Bool) (m n k l : ℕ) → m ≤ k → n ≤ l → cond b m n ≤ cond b k l
 cond_le true m n k l h g = h
 cond_le false m n k l h g = g
 
-pub before_rises : (T C mark a b : ℕ) → a ≤ b → before a T C mark ≤ before b T C mark
+pub before_rises : (e : Old) (a b : ℕ) → a ≤ b → before a e ≤ before b e
 unfolding before
-before_rises T C mark a b h = cond_le (eqb mark 0) _ _ _ _ (jobs_rise T C a b h) (cut_rises T C a b h)
+before_rises e a b h = cond_le e.cut _ _ _ _ (cut_rises e.jobs.period e.jobs.execution a b h) (jobs_rise e.jobs.period e.jobs.execution a b h)
 
-pub old_rises : (l : List ℕ) (n a b : ℕ) → a ≤ b → old_sum l n a ≤ old_sum l n b
-unfolding share_of
-old_rises l n a b h =
-    sum_le n (share_of (before a) l) (share_of (before b) l) (λ j g. before_rises (get_or l (4 * j + 1) 0) (get_or l (4 * j + 2) 0) (get_or l (4 * j + 3) 0) a b h)
+pub old_rises : (o : List Old) (a b : ℕ) → a ≤ b → old_sum o a ≤ old_sum o b
+old_rises o a b h = list_mono (before a) (before b) (λ e. before_rises e a b h) o
 
-pub new_rises : (l : List ℕ) (n a b : ℕ) → a ≤ b → new_sum l n a ≤ new_sum l n b
-unfolding share_of after
-new_rises l n a b h =
-    sum_le n (share_of (after a) l) (share_of (after b) l) (λ j g. jobs_rise (get_or l (4 * j + 1) 0) (get_or l (4 * j + 2) 0) _ _ (omega arith))
+pub new_rises : (w : List New) (a b : ℕ) → a ≤ b → new_sum w a ≤ new_sum w b
+unfolding after
+new_rises w a b h = list_mono (after a) (after b) (λ e. jobs_rise e.jobs.period e.jobs.execution _ _ (omega arith)) w
 
--- up to the end of its period a term that has grown stays
-pub before_flat : (T C mark x y : ℕ) → 1 ≤ T → grows_by C mark ≤ x % T → y ≤ x - x % T + T → before y T C mark ≤ before x T C mark
+-- up to the end of its period a task that has grown stays
+pub before_flat : (e : Old) (x y : ℕ) → 1 ≤ e.jobs.period → grows_by e ≤ x % e.jobs.period → y ≤ x - x % e.jobs.period + e.jobs.period → before y e ≤ before x e
 unfolding before grows_by
-before_flat T C mark x y s h l = by_mark (eqb mark 0) h
+before_flat e x y s h l = by_cut e.cut h
   where
-    by_mark : (b : Bool) → cond b 1 C ≤ x % T → cond b (jobs_in T C y) (cut_in T C y) ≤ cond b (jobs_in T C x) (cut_in T C x)
-    by_mark true g = jobs_flat T C x y s l g
-    by_mark false g = cut_flat T C x y s l g
+    by_cut : (b : Bool) → cond b e.jobs.execution 1 ≤ x % e.jobs.period
+        → cond b (cut_in e.jobs.period e.jobs.execution y) (jobs_in e.jobs.period e.jobs.execution y)
+        ≤ cond b (cut_in e.jobs.period e.jobs.execution x) (jobs_in e.jobs.period e.jobs.execution x)
+    by_cut true g = cut_flat e.jobs.period e.jobs.execution x y s l g
+    by_cut false g = jobs_flat e.jobs.period e.jobs.execution x y s l g
 
--- between x and the next phase at which it grows, a term does not grow
+-- between x and the next phase at which it grows, a task does not grow
 pub record Still (f : ℕ → ℕ) (x next : ℕ) : Type 0 where
   pub later : x < next
   pub still : (y : ℕ) → x ≤ y → y < next → f y ≤ f x
 
-next_still : (T C mark x : ℕ) → 1 ≤ T → Still (λ m. before m T C mark) x (next_of x T C mark)
+next_still : (e : Old) (x : ℕ) → 1 ≤ e.jobs.period → Still (λ m. before m e) x (next_of x e)
 unfolding next_of
-next_still T C mark x s = ⊎_elim stays grows (le_or_lt (grows_by C mark) (x % T))
+next_still e x s = ⊎_elim stays grows (le_or_lt (grows_by e) (x % e.jobs.period))
   where
-    grows : x % T < grows_by C mark → Still (λ m. before m T C mark) x (cond (ltb (x % T) (grows_by C mark)) (x + 1) (x - x % T + T + 1))
-    grows h = rw (lt-ltb (x % T) (grows_by C mark) h) (record { later = omega arith; still = λ y a b. before_rises T C mark y x (omega arith) })
+    grows : x % e.jobs.period < grows_by e → Still (λ m. before m e) x (cond (ltb (x % e.jobs.period) (grows_by e)) (x + 1) (x - x % e.jobs.period + e.jobs.period + 1))
+    grows h = rw (lt-ltb (x % e.jobs.period) (grows_by e) h) (record { later = omega arith; still = λ y a b. before_rises e y x (omega arith) })
 
-    stays : grows_by C mark ≤ x % T → Still (λ m. before m T C mark) x (cond (ltb (x % T) (grows_by C mark)) (x + 1) (x - x % T + T + 1))
+    stays : grows_by e ≤ x % e.jobs.period → Still (λ m. before m e) x (cond (ltb (x % e.jobs.period) (grows_by e)) (x + 1) (x - x % e.jobs.period + e.jobs.period + 1))
     stays h =
-        rw (le-ltb (x % T) (grows_by C mark) h)
-        (record { later = omega (arith, mod-lt x s); still = λ y a b. before_flat T C mark x y s h (omega arith) })
+        rw (le-ltb (x % e.jobs.period) (grows_by e) h)
+        (record { later = omega (arith, mod-lt x s); still = λ y a b. before_flat e x y s h (omega arith) })
 
-pub phase_still : (l : List ℕ) (n x limit : ℕ) → Ready l n → x ≤ limit → Still (old_sum l n) x (next_phase l n x limit)
-unfolding next_phase sum share_of
-phase_still l zero x limit r h = record { later = omega arith; still = λ y a b. omega arith }
-phase_still l (suc n) x limit r h =
-    let m = phase_still l n x limit (ready_less l n (suc n) (omega arith) r) h in
-    let k = last in
-    record { later = omega (arith, m.later, k.later); still = λ y a b. omega (arith, m.still y a (omega arith), k.still y a (omega arith)) }
+pub phase_still : (o : List Old) (w : List New) (x limit : ℕ) → Ready o w → x ≤ limit → Still (old_sum o) x (next_phase o x limit)
+unfolding next_phase sum_of
+phase_still o w x limit r h = go o r.good_old
   where
-    last : Still (λ m. share_of (before m) l n) x (share_of (next_of x) l n)
-    last = next_still (get_or l (4 * n + 1) 0) (get_or l (4 * n + 2) 0) (get_or l (4 * n + 3) 0) x (r.good n (omega arith)).some
+    go : (o : List Old) → All (λ e. Good e.jobs) o → Still (old_sum o) x (next_phase o x limit)
+    go [] g = record { later = omega arith; still = λ y a b. omega arith }
+    go (e ∷ o) g =
+        let m = go o (all_tail (λ e. Good e.jobs) e o g) in
+        let k = next_still e x (all_head (λ e. Good e.jobs) e o g).some in
+        record { later = omega (arith, m.later, k.later); still = λ y a b. omega (arith, m.still y a (omega arith), k.still y a (omega arith)) }
 
-pub phase_within : (l : List ℕ) (n x limit : ℕ) → next_phase l n x limit ≤ limit + 1
+pub phase_within : (o : List Old) (x limit : ℕ) → next_phase o x limit ≤ limit + 1
 unfolding next_phase
-phase_within l zero x limit = omega arith
-phase_within l (suc n) x limit = omega (arith, phase_within l n x limit)
+phase_within [] x limit = omega arith
+phase_within (e ∷ o) x limit = omega (arith, phase_within o x limit)
 
--- from where it stopped in period k to the end of it a term stays
-before_level : (T C mark k y z : ℕ) → grows_by C mark < T → k * T + grows_by C mark ≤ z → y ≤ k * T + T → before y T C mark ≤ before z T C mark
+-- the same as the least so far goes from task to task
+pub next_from : (o : List Old) (n x limit : ℕ) → n ≤ limit + 1 → fold (λ a e. min a (next_of x e)) n o ≡ min n (next_phase o x limit)
+unfolding next_phase
+next_from [] n x limit h = omega arith
+next_from (e ∷ o) n x limit h = omega (arith, next_from o (min n (next_of x e)) x limit (omega arith))
+
+pub next_is : (o : List Old) (x limit : ℕ) → next_phase o x limit ≡ fold (λ a e. min a (next_of x e)) (limit + 1) o
+next_is o x limit = omega (arith, next_from o (limit + 1) x limit (omega arith), phase_within o x limit)
+
+-- from where it stopped in period k to the end of it a task stays
+before_level : (e : Old) (k y z : ℕ) → grows_by e < e.jobs.period → k * e.jobs.period + grows_by e ≤ z → y ≤ k * e.jobs.period + e.jobs.period → before y e ≤ before z e
 unfolding before grows_by
-before_level T C mark k y z s h l = by_mark (eqb mark 0) s h
+before_level e k y z s h l = by_cut e.cut s h
   where
+    T : ℕ
+    T = e.jobs.period
+
+    C : ℕ
+    C = e.jobs.execution
+
     next : k * T + T ≡ suc k * T + 0
     next = omega (arith, suc-mul k T)
 
-    by_mark : (b : Bool) → cond b 1 C < T → k * T + cond b 1 C ≤ z → cond b (jobs_in T C y) (cut_in T C y) ≤ cond b (jobs_in T C z) (cut_in T C z)
-    by_mark true r g =
-        omega (
-          arith,
-          jobs_rise T C y (k * T + T) l,
-          jobs_whole T C (k * T + T) (suc k) (omega arith) next,
-          suc-mul k C,
-          jobs_begun T C (k * T + 1) k 0 (omega arith) (omega arith),
-          jobs_rise T C (k * T + 1) z g,
-        )
-    by_mark false r g =
+    by_cut : (b : Bool) → cond b C 1 < T → k * T + cond b C 1 ≤ z → cond b (cut_in T C y) (jobs_in T C y) ≤ cond b (cut_in T C z) (jobs_in T C z)
+    by_cut true r g =
         omega (
           arith,
           cut_rises T C y (k * T + T) l,
@@ -113,68 +129,79 @@ before_level T C mark k y z s h l = by_mark (eqb mark 0) s h
           cut_is T C (k * T + C) k C r (omega arith),
           cut_rises T C (k * T + C) z g,
         )
+    by_cut false r g =
+        omega (
+          arith,
+          jobs_rise T C y (k * T + T) l,
+          jobs_whole T C (k * T + T) (suc k) (omega arith) next,
+          suc-mul k C,
+          jobs_begun T C (k * T + 1) k 0 (omega arith) (omega arith),
+          jobs_rise T C (k * T + 1) z g,
+        )
 
--- from the last phase at which it grows to m + 1, a term stays
+-- from the last phase at which it grows to m + 1, a task stays
 pub record Level (f : ℕ → ℕ) (m prev : ℕ) : Type 0 where
   pub within : prev ≤ m + 1
   pub level : (z y : ℕ) → prev ≤ z → z ≤ y → y ≤ m + 1 → f y ≤ f z
 
-prev_level : (T C mark m : ℕ) → 1 ≤ T → Level (λ t. before t T C mark) m (prev_of m T C mark)
+prev_level : (e : Old) (m : ℕ) → 1 ≤ e.jobs.period → Level (λ t. before t e) m (prev_of m e)
 unfolding prev_of
-prev_level T C mark m s = ⊎_elim stays grows (le_or_lt (grows_by C mark) (m % T))
+prev_level e m s = ⊎_elim stays grows (le_or_lt (grows_by e) (m % e.jobs.period))
   where
-    grows : m % T < grows_by C mark → Level (λ t. before t T C mark) m (cond (ltb (m % T) (grows_by C mark)) (m + 1) (m - m % T + grows_by C mark))
-    grows h = rw (lt-ltb (m % T) (grows_by C mark) h) (record { within = omega arith; level = λ z y a b d. before_rises T C mark y z (omega arith) })
+    grows : m % e.jobs.period < grows_by e → Level (λ t. before t e) m (cond (ltb (m % e.jobs.period) (grows_by e)) (m + 1) (m - m % e.jobs.period + grows_by e))
+    grows h = rw (lt-ltb (m % e.jobs.period) (grows_by e) h) (record { within = omega arith; level = λ z y a b d. before_rises e y z (omega arith) })
 
-    stays : grows_by C mark ≤ m % T → Level (λ t. before t T C mark) m (cond (ltb (m % T) (grows_by C mark)) (m + 1) (m - m % T + grows_by C mark))
+    stays : grows_by e ≤ m % e.jobs.period → Level (λ t. before t e) m (cond (ltb (m % e.jobs.period) (grows_by e)) (m + 1) (m - m % e.jobs.period + grows_by e))
     stays h =
-        let e = div-add-mod' m T in
+        let d = div-add-mod' m e.jobs.period in
         let r = mod-lt m s in
-        rw (le-ltb (m % T) (grows_by C mark) h)
-        (record { within = omega arith; level = λ z y a b d. before_level T C mark (m / T) y z (omega arith) (omega arith) (omega arith) })
+        rw (le-ltb (m % e.jobs.period) (grows_by e) h)
+        (record { within = omega arith; level = λ z y a b d. before_level e (m / e.jobs.period) y z (omega arith) (omega arith) (omega arith) })
 
-pub phase_level : (l : List ℕ) (n m : ℕ) → Ready l n → Level (old_sum l n) m (prev_phase l n m)
-unfolding prev_phase sum share_of
-phase_level l zero m r = record { within = omega arith; level = λ z y a b d. omega arith }
-phase_level l (suc n) m r =
-    let a = phase_level l n m (ready_less l n (suc n) (omega arith) r) in
-    let b = last in
+phases_level : (o : List Old) (m : ℕ) → All (λ e. Good e.jobs) o → Level (old_sum o) m (prev_phase o m)
+unfolding prev_phase sum_of
+phases_level [] m g = record { within = omega arith; level = λ z y a b d. omega arith }
+phases_level (e ∷ o) m g =
+    let a = phases_level o m (all_tail (λ e. Good e.jobs) e o g) in
+    let b = prev_level e m (all_head (λ e. Good e.jobs) e o g).some in
     record { within = omega (arith, a.within, b.within); level = λ z y h g d. omega (arith, a.level z y (omega arith) g d, b.level z y (omega arith) g d) }
-  where
-    last : Level (λ t. share_of (before t) l n) m (share_of (prev_of m) l n)
-    last = prev_level (get_or l (4 * n + 1) 0) (get_or l (4 * n + 2) 0) (get_or l (4 * n + 3) 0) m (r.good n (omega arith)).some
 
--- once it is m + 1 it stays so
-pub phase_stays : (l : List ℕ) (n m j : ℕ) → j ≤ n → Ready l n → m < prev_phase l j m → prev_phase l j m ≡ prev_phase l n m
+pub phase_level : (o : List Old) (w : List New) (m : ℕ) → Ready o w → Level (old_sum o) m (prev_phase o m)
+phase_level o w m r = phases_level o m r.good_old
+
+pub phase_by : (o : List Old) (w : List New) (m : ℕ) → Ready o w → prev_phase o m ≤ m + 1
+phase_by o w m r = (phase_level o w m r).within
+
+pub phase_some : (o : List Old) (m : ℕ) → 1 ≤ prev_phase o m
 unfolding prev_phase
-phase_stays l n m j h r g = omega (arith, up n h, (phase_level l n m r).within, (phase_level l j m (ready_less l j n h r)).within)
-  where
-    up : (n : ℕ) → j ≤ n → prev_phase l j m ≤ prev_phase l n m
-    up zero h = let e : j ≡ 0 = omega arith in rw e (omega arith)
-    up (suc n) h = ⊎_elim (λ i. omega (arith, up n i)) (λ i. let e : j ≡ suc n = omega arith in rw e (omega arith)) (le_or_lt j n)
+phase_some [] m = omega arith
+phase_some (e ∷ o) m = omega (arith, phase_some o m)
 
-pub phase_some : (l : List ℕ) (n m : ℕ) → 1 ≤ prev_phase l n m
+pub prev_more : (o : List Old) (i m p : ℕ) (d : Old) → p ≡ prev_of m (get_or o i d) → i < length o → prev_phase (drop i o) m ≡ max p (prev_phase (drop (i + 1) o) m)
 unfolding prev_phase
-phase_some l zero m = omega arith
-phase_some l (suc n) m = omega (arith, phase_some l n m)
+prev_more o i m p d e h = rw (e, add-one, drop-cons o i d) refl
 
-module _ (o : List ℕ) (n : ℕ) (w : List ℕ) (k C : ℕ) where
-  pub flat_rises : (x s t : ℕ) → s ≤ t → flat_demand o n w k C x s ≤ flat_demand o n w k C x t
+pub prev_none : (o : List Old) (i m : ℕ) → length o ≤ i → prev_phase (drop i o) m ≡ 1
+unfolding prev_phase
+prev_none o i m h = rw (drop_all i o h) refl
+
+module _ (C : ℕ) (o : List Old) (w : List New) where
+  pub flat_rises : (x s t : ℕ) → s ≤ t → flat_demand C o w x s ≤ flat_demand C o w x t
   unfolding flat_demand
-  flat_rises x s t h = omega (arith, old_rises o n (min s x) (min t x) (omega arith), new_rises w k (s - x) (t - x) (omega arith))
+  flat_rises x s t h = omega (arith, old_rises o (min s x) (min t x) (omega arith), new_rises w (s - x) (t - x) (omega arith))
 
-  pub flat_least : (x t : ℕ) → C ≤ flat_demand o n w k C x t
+  pub flat_least : (x t : ℕ) → C ≤ flat_demand C o w x t
   unfolding flat_demand
   flat_least x t = omega arith
 
-  pub flat_same : (x y t : ℕ) → t ≤ x → t ≤ y → flat_demand o n w k C x t ≡ flat_demand o n w k C y t
+  pub flat_same : (x y t : ℕ) → t ≤ x → t ≤ y → flat_demand C o w x t ≡ flat_demand C o w y t
   unfolding flat_demand
   flat_same x y t h l =
       let a : min t x ≡ min t y = omega arith in
       let b : t - x ≡ t - y = omega arith in
       rw (a, b)
 
-  flat_after : (x t u : ℕ) → t ≡ x + u → flat_demand o n w k C x t ≡ C + old_sum o n x + new_sum w k u
+  flat_after : (x t u : ℕ) → t ≡ x + u → flat_demand C o w x t ≡ C + old_sum o x + new_sum w u
   unfolding flat_demand
   flat_after x t u e =
       let a : min t x ≡ x = omega arith in
@@ -182,29 +209,29 @@ module _ (o : List ℕ) (n : ℕ) (w : List ℕ) (k C : ℕ) where
       rw (a, b)
 
   -- equally far behind the request, two demands differ by what they are at the request
-  pub flat_shift : (x y u : ℕ) → flat_demand o n w k C y (y + u) + flat_demand o n w k C x x ≡ flat_demand o n w k C x (x + u) + flat_demand o n w k C y y
+  pub flat_shift : (x y u : ℕ) → flat_demand C o w y (y + u) + flat_demand C o w x x ≡ flat_demand C o w x (x + u) + flat_demand C o w y y
   flat_shift x y u =
       let a = flat_after x (x + u) u (omega arith) in
       let b = flat_after y (y + u) u (omega arith) in
       omega (arith, a, b, flat_after x x 0 (omega arith), flat_after y y 0 (omega arith))
 
   -- where the old part does not grow from x to y, the demand at y is nowhere above that at x
-  pub flat_calm : (x y t : ℕ) → x ≤ y → old_sum o n y ≤ old_sum o n x → flat_demand o n w k C y t ≤ flat_demand o n w k C x t
+  pub flat_calm : (x y t : ℕ) → x ≤ y → old_sum o y ≤ old_sum o x → flat_demand C o w y t ≤ flat_demand C o w x t
   unfolding flat_demand
-  flat_calm x y t h e = omega (arith, ⊎_elim early late (le_or_lt t x), new_rises w k (t - y) (t - x) (omega arith))
+  flat_calm x y t h e = omega (arith, ⊎_elim early late (le_or_lt t x), new_rises w (t - y) (t - x) (omega arith))
     where
-      early : t ≤ x → old_sum o n (min t y) ≤ old_sum o n (min t x)
-      early l = old_rises o n (min t y) (min t x) (omega arith)
+      early : t ≤ x → old_sum o (min t y) ≤ old_sum o (min t x)
+      early l = old_rises o (min t y) (min t x) (omega arith)
 
-      late : x < t → old_sum o n (min t y) ≤ old_sum o n (min t x)
-      late l = omega (arith, old_rises o n (min t y) y (omega arith), old_rises o n x (min t x) (omega arith))
+      late : x < t → old_sum o (min t y) ≤ old_sum o (min t x)
+      late l = omega (arith, old_rises o (min t y) y (omega arith), old_rises o x (min t x) (omega arith))
 
-  -- with no new term, before the request: the old terms at t
-  pub flat_steady_lem : (x t : ℕ) → t ≤ x → flat_demand o n w 0 C x t ≡ C + old_sum o n t
-  unfolding flat_demand sum
-  flat_steady_lem x t h = let a : min t x ≡ t = omega arith in rw a (omega arith)
+-- with no new task, before the request: the old tasks at t
+pub flat_steady_lem : (C : ℕ) (o : List Old) (x t : ℕ) → t ≤ x → flat_demand C o [] x t ≡ C + old_sum o t
+unfolding flat_demand sum_of
+flat_steady_lem C o x t h = let a : min t x ≡ t = omega arith in rw a (omega arith)
 
-  -- with no old term, from a request at 0: the new terms at t
-  pub flat_request_lem : (t : ℕ) → flat_demand o 0 w k C 0 t ≡ C + new_sum w k t
-  unfolding flat_demand sum
-  flat_request_lem t = let a : t - 0 ≡ t = omega arith in rw a (omega arith)
+-- with no old task, from a request at 0: the new tasks at t
+pub flat_request_lem : (C : ℕ) (w : List New) (t : ℕ) → flat_demand C [] w 0 t ≡ C + new_sum w t
+unfolding flat_demand sum_of
+flat_request_lem C w t = let a : t - 0 ≡ t = omega arith in rw a (omega arith)

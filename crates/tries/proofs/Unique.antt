@@ -17,12 +17,6 @@ use Rattle.tries.proofs.good_list.Reads as good_list
 use Rattle.tries.proofs.good_list.Kinds as good_list_kinds
 use Rattle.tries.proofs.damage.Reads as damage
 use Rattle.tries.proofs.damage.Kinds as damage_kinds
-use Rattle.tries.proofs.no_numbers.Reads as no_numbers
-use Rattle.tries.proofs.no_numbers.Kinds as no_numbers_kinds
-use Rattle.tries.proofs.no_bytes.Reads as no_bytes
-use Rattle.tries.proofs.no_bytes.Kinds as no_bytes_kinds
-use Rattle.tries.proofs.no_block.Reads as no_block
-use Rattle.tries.proofs.no_block.Kinds as no_block_kinds
 use Rattle.tries.proofs.same_from.Reads as same_from
 use Rattle.tries.proofs.same_from.Kinds as same_from_kinds
 
@@ -53,18 +47,6 @@ good_list_unique κs a r r' s s' p q = p ∙ sym q
 pub damage_unique : (κs : Lfts 2) (a : Dens κs damage_kinds.ps) (r r' : (res_t damage_kinds.r κs).Denot) (s s' : AtExit (ended_of 2 damage_kinds.ps damage_kinds.r) κs)
     → damage.Post κs a r s → damage.Post κs a r' s' → s.0.now ≡ s'.0.now
 damage_unique κs a r r' s s' p q = p ∙ sym q
-
-pub no_numbers_unique : (κs : Lfts 0) (a : Dens κs no_numbers_kinds.ps) (r r' : (res_t no_numbers_kinds.r κs).Denot) (s s' : AtExit (ended_of 0 no_numbers_kinds.ps no_numbers_kinds.r) κs)
-    → no_numbers.Post κs a r s → no_numbers.Post κs a r' s' → r ≡ r'
-no_numbers_unique κs a r r' s s' p q = p ∙ sym q
-
-pub no_bytes_unique : (κs : Lfts 0) (a : Dens κs no_bytes_kinds.ps) (r r' : (res_t no_bytes_kinds.r κs).Denot) (s s' : AtExit (ended_of 0 no_bytes_kinds.ps no_bytes_kinds.r) κs)
-    → no_bytes.Post κs a r s → no_bytes.Post κs a r' s' → r ≡ r'
-no_bytes_unique κs a r r' s s' p q = p ∙ sym q
-
-pub no_block_unique : (κs : Lfts 0) (a : Dens κs no_block_kinds.ps) (r r' : (res_t no_block_kinds.r κs).Denot) (s s' : AtExit (ended_of 0 no_block_kinds.ps no_block_kinds.r) κs)
-    → no_block.Post κs a r s → no_block.Post κs a r' s' → r ≡ r'
-no_block_unique κs a r r' s s' p q = p ∙ sym q
 
 pub same_from_unique : (κs : Lfts 2) (a : Dens κs same_from_kinds.ps) (r r' : (res_t same_from_kinds.r κs).Denot) (s s' : AtExit (ended_of 2 same_from_kinds.ps same_from_kinds.r) κs)
     → same_from.Post κs a r s → same_from.Post κs a r' s' → r ≡ r'

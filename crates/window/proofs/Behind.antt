@@ -2,37 +2,36 @@
 use Prim.Native.Nat.{ℕ, zero, suc, ◌+◌, ◌-◌, ◌≤◌, ◌<◌}
 use mathlib.Core.Path.{◌≡◌, refl, ◌∙◌}
 use mathlib.Core.Bool.{cond}
-use mathlib.Core.Option.{some}
+use Rattle.std.specs.Prelude.{Some, Ok}
 use mathlib.Core.Logic.{⊎_elim}
 use lib.Dec.{ltb}
 use borrow.Author.Tests.{le-ltb, lt-ltb}
 use native.Mathlib.Omega.{arith}
-use native.Mathlib.Nat.{add-zero, add-suc, le_trans}
+use native.Mathlib.Nat.{le_trans}
 use Rattle.base.specs.Search.{Climbs}
 use Rattle.base.proofs.Search.{Window, window_found, window_by, climb_from, climb_at, le_or_lt}
 use Rattle.window.specs.declared.Worst.{Worst}
-use Rattle.window.specs.declared.Swept.TheVariants.{Over}
 use Rattle.window.specs.declared.Back.{Back}
 use Rattle.window.specs.Worst.{take_of, next_of, sweep}
 use Rattle.window.specs.Phases.{window_at}
 use Rattle.window.specs.Behind.{Bar, Fine, Held, Seen}
-use Rattle.window.proofs.Phases.{Family, calm, more, unmet_all}
+use Rattle.window.proofs.Phases.{Family, calm, more, stretch, unmet_all}
 
-module _ (f : ℕ → ℕ → ℕ) (c limit : ℕ) (fam : Family f c) where
+module _ {f : ℕ → ℕ → ℕ} {c : ℕ} (fam : Family f c) where
   -- ---- the end: what all phases agree on is the worst
-  module _ (b : Worst) (fits : b.window ≤ limit) (shown : 1 ≤ b.phase) (inside : b.phase ≤ limit) (gives : window_at f limit b.phase ≡ some b.window)
+  module _ {limit : ℕ} (b : Worst) (fits : b.window ≤ limit) (shown : 1 ≤ b.phase) (inside : b.phase ≤ limit) (gives : window_at f limit b.phase ≡ Some b.window)
       (all : (y : ℕ) → 1 ≤ y → y ≤ limit → Fine f limit b y) where
     -- before its phase only smaller windows are met
     pub record Lower (n : ℕ) : Type 0 where
       pub best : Worst
-      pub is : sweep (window_at f limit) n ≡ Over best
+      pub is : sweep (window_at f limit) n ≡ Ok best
       pub less : best.window < b.window
 
     -- a phase more
-    still : (n t : ℕ) → Lower n → window_at f limit (suc n) ≡ some t → t < b.window → Lower (suc n)
+    still : (n t : ℕ) → Lower n → window_at f limit (suc n) ≡ Some t → t < b.window → Lower (suc n)
     unfolding sweep next_of take_of
     still n t l k s =
-        let e : sweep (window_at f limit) (suc n) ≡ Over (take_of l.best t (suc n)) = rw (l.is, k) in
+        let e : sweep (window_at f limit) (suc n) ≡ Ok (take_of l.best t (suc n)) = rw (l.is, k) in
         ⊎_elim
         (λ g. record { best = l.best; is = e ∙ rw (le-ltb l.best.window t g); less = l.less })
         (λ g. record { best = record { window = t; phase = suc n }; is = e ∙ rw (lt-ltb l.best.window t g); less = s })
@@ -47,24 +46,20 @@ module _ (f : ℕ → ℕ → ℕ) (c limit : ℕ) (fam : Family f c) where
         let k = window_by (f (suc n)) limit d.v d.some (omega (arith, d.by)) d.shuts in
         still n k.at (lower n (omega arith)) k.is (omega (arith, k.by, d.less h))
 
-    taken : (n : ℕ) → suc n ≡ b.phase → Lower n → sweep (window_at f limit) (suc n) ≡ Over b
+    taken : (n : ℕ) → suc n ≡ b.phase → Lower n → sweep (window_at f limit) (suc n) ≡ Ok b
     unfolding next_of take_of
-    taken n i l = more f c limit l.best (Over b) n l.is (rw (i, gives, lt-ltb l.best.window b.window l.less))
+    taken n i l = more f limit l.best (Ok b) n l.is (rw (i, gives, lt-ltb l.best.window b.window l.less))
 
-    at_phase_lem : sweep (window_at f limit) b.phase ≡ Over b
+    at_phase_lem : sweep (window_at f limit) b.phase ≡ Ok b
     at_phase_lem = let i : suc (b.phase - 1) ≡ b.phase = omega arith in rw i at (taken (b.phase - 1) i (lower (b.phase - 1) (omega arith)))
 
-    after : (k : ℕ) → b.phase + k ≤ limit → sweep (window_at f limit) (b.phase + k) ≡ Over b
-    after zero h = rw add-zero at_phase_lem
-    after (suc k) h =
-        let d = all (suc (b.phase + k)) (omega arith) (omega arith) in
-        rw add-suc (more f c limit b (Over b) (b.phase + k) (after k (omega arith)) (calm f c limit b (suc (b.phase + k)) d.v d.some d.by fits d.shuts))
-
-    pub sweep_all : sweep (window_at f limit) limit ≡ Over b
-    sweep_all = let j : b.phase + (limit - b.phase) ≡ limit = omega arith in rw j at (after (limit - b.phase) (omega arith))
+    pub sweep_all : sweep (window_at f limit) limit ≡ Ok b
+    sweep_all =
+        let j : b.phase + (limit - b.phase) ≡ limit = omega arith in
+        rw j at (stretch f limit b b.phase (limit - b.phase) at_phase_lem (λ y h l. let d = all y (omega arith) (omega arith) in calm f limit b y d.v d.some d.by fits d.shuts))
 
   -- ---- the start
-  module _ (t w : ℕ) (settles : window_at f limit limit ≡ some t) (first : window_at f limit 1 ≡ some w) where
+  module _ (limit t w : ℕ) (settles : window_at f limit limit ≡ Some t) (first : window_at f limit 1 ≡ Some w) where
     last : Window (f limit) limit t
     unfolding window_at
     last = window_found (f limit) limit t settles
@@ -74,7 +69,7 @@ module _ (f : ℕ → ℕ → ℕ) (c limit : ℕ) (fam : Family f c) where
     begins = window_found (f 1) limit w first
 
     early : (u : ℕ) → u < t → u < f t u
-    early u h = omega (arith, unmet_all f c limit fam limit t last u h, fam.same limit t u (omega (arith, last.within)) (omega arith))
+    early u h = omega (arith, unmet_all fam limit t last u h, fam.same limit t u (omega (arith, last.within)) (omega arith))
 
     climbs : Climbs (f t) limit t
     climbs = climb_from (f t) limit t (fam.rises t) last.first last.within early
@@ -82,15 +77,15 @@ module _ (f : ℕ → ℕ → ℕ) (c limit : ℕ) (fam : Family f c) where
     whole : t ≡ f t t
     whole = omega (arith, climbs.up, last.closes, fam.same limit t t last.within (omega arith))
 
-    own : window_at f limit t ≡ some t
+    own : window_at f limit t ≡ Some t
     unfolding window_at
     own = climb_at (f t) limit t t climbs whole refl
 
     fine_late : (b : Worst) → t ≤ b.window → b.phase ≤ t → (y : ℕ) → t ≤ y → Fine f limit b y
     fine_late b g h y l = record { v = t; some = last.first; shuts = omega (arith, last.closes, fam.same limit y t last.within l); by = g; less = λ i. absurd (omega arith) }
 
-    start_held : (b : Worst) → t ≤ b.window → b.window ≤ limit → 1 ≤ b.phase → b.phase ≤ limit → window_at f limit b.phase ≡ some b.window → Fine f limit b 1
-        → Held f limit t (record { best = b; phase = t; reach = t; base = t })
+    start_held : (b : Worst) → t ≤ b.window → b.window ≤ limit → 1 ≤ b.phase → b.phase ≤ limit → window_at f limit b.phase ≡ Some b.window → Fine f limit b 1
+        → Held f limit t (record { best = b; last = record { phase = t; reach = t; base = t } })
     start_held b g h i j e d =
         record {
           shown = i;
@@ -109,7 +104,7 @@ module _ (f : ℕ → ℕ → ℕ) (c limit : ℕ) (fam : Family f c) where
 
     -- the state at the start, and that every later phase is fine
     pub record Start (b : Worst) : Type 0 where
-      pub held : Held f limit t (record { best = b; phase = t; reach = t; base = t })
+      pub held : Held f limit t (record { best = b; last = record { phase = t; reach = t; base = t } })
       pub fine : (y : ℕ) → t ≤ y → Fine f limit b y
 
     pub start : Start (take_of (record { window = w; phase = 1 }) t t)
@@ -131,8 +126,8 @@ module _ (f : ℕ → ℕ → ℕ) (c limit : ℕ) (fam : Family f c) where
             (record { held = start_held b (omega arith) last.within last.first last.within own d; fine = fine_late b (omega arith) (omega arith) })
 
   -- ---- from phase to phase
-  pub held_less : (x z : ℕ) (s : Back) → z ≤ x → Held f limit x s → Held f limit z s
-  held_less x z s l held =
+  pub held_less : {limit x : ℕ} {s : Back} (z : ℕ) → z ≤ x → Held f limit x s → Held f limit z s
+  held_less z l held =
       record {
         shown = held.shown;
         inside = held.inside;
@@ -148,13 +143,18 @@ module _ (f : ℕ → ℕ → ℕ) (c limit : ℕ) (fam : Family f c) where
         fits = held.fits;
       }
 
-  pub fine_still : (b : Worst) (z y : ℕ) → z ≤ y → ((t : ℕ) → f y t ≤ f z t) → Fine f limit b z → Fine f limit b y
-  fine_still b z y h q d = record { v = d.v; some = d.some; shuts = le_trans (q d.v) d.shuts; by = d.by; less = λ i. d.less (omega arith) }
+  -- z was seen, and up to x the demand is nowhere above that at z: so all phases from z on are fine
+  pub fine_from : {limit x z : ℕ} {s r : Back} → z < x → ((y : ℕ) → x ≤ y → y ≤ limit → Fine f limit s.best y) → Seen f limit z s r
+      → ((y t : ℕ) → z ≤ y → y < x → f y t ≤ f z t) → (y : ℕ) → z ≤ y → y ≤ limit → Fine f limit r.best y
+  fine_from {limit = limit} {x = x} {r = r} l done seen low y h i = ⊎_elim (λ j. seen.keeps y (omega arith) (done y j i)) between (le_or_lt x y)
+    where
+      between : y < x → Fine f limit r.best y
+      between j = let d = seen.fine in record { v = d.v; some = d.some; shuts = le_trans (low y d.v h j) d.shuts; by = d.by; less = λ k. d.less (omega arith) }
 
   -- ---- one phase
-  module _ (x : ℕ) (s : Back) (pos : 1 ≤ x) (held : Held f limit (x + 1) s) where
+  module _ {limit : ℕ} (x : ℕ) {s : Back} (pos : 1 ≤ x) (held : Held f limit (x + 1) s) where
     same : Fine f limit s.best x → Seen f limit x s s
-    same d = record { held = held_less (x + 1) x s (omega arith) held; fine = d; keeps = λ y h e. e }
+    same d = record { held = held_less x (omega arith) held; fine = d; keeps = λ y h e. e }
 
     pub seen_one : x ≡ 1 → Seen f limit x s s
     seen_one e = same (rw e held.one)
@@ -165,41 +165,41 @@ module _ (f : ℕ → ℕ → ℕ) (c limit : ℕ) (fam : Family f c) where
         (record { v = r; some = omega (arith, fam.least x r, fam.some); shuts = e; by = b.by; less = λ h. b.later (omega arith) })
 
     -- as far behind the request as the last window reaches
-    pub seen_short : (a : ℕ) → a ≡ f x x → a + (s.phase - x) ≤ s.base → Seen f limit x s s
-    seen_short a e h = short (s.reach - s.phase) (omega (arith, held.far))
+    pub seen_short : (a : ℕ) → a ≡ f x x → a + (s.last.phase - x) ≤ s.last.base → Seen f limit x s s
+    seen_short a e h = short (s.last.reach - s.last.phase) (omega (arith, held.far))
       where
-        short : (u : ℕ) → s.phase + u ≡ s.reach → Seen f limit x s s
+        short : (u : ℕ) → s.last.phase + u ≡ s.last.reach → Seen f limit x s s
         short u g =
-            let q : f s.phase (s.phase + u) ≤ s.phase + u = rw g held.shuts in
+            let q : f s.last.phase (s.last.phase + u) ≤ s.last.phase + u = rw g held.shuts in
             same
             (record {
               v = x + u;
               some = omega arith;
-              shuts = omega (arith, fam.shift s.phase x u, q, held.based, held.past);
+              shuts = omega (arith, fam.shift s.last.phase x u, q, held.based, held.past);
               by = omega (arith, held.by, held.past);
               less = λ i. omega (arith, held.by, held.past);
             })
 
-    module _ (a : ℕ) (is : a ≡ f x x) (more-asked : s.base < a + (s.phase - x)) where
-      behind : (u : ℕ) → u < s.reach - (s.phase - x) → u < f x u
-      behind u h = ⊎_elim (λ l. far (u - x) (omega arith) (held.under (s.phase + (u - x)) (omega arith) (omega (arith, held.far, held.past)))) before (le_or_lt x u)
+    module _ (a : ℕ) (is : a ≡ f x x) (more-asked : s.last.base < a + (s.last.phase - x)) where
+      behind : (u : ℕ) → u < s.last.reach - (s.last.phase - x) → u < f x u
+      behind u h = ⊎_elim (λ l. far (u - x) (omega arith) (held.under (s.last.phase + (u - x)) (omega arith) (omega (arith, held.far, held.past)))) before (le_or_lt x u)
         where
           before : u < x → u < f x u
           before l = omega (arith, held.early u (omega arith), fam.same u x u (omega arith) (omega arith))
 
-          far : (v : ℕ) → x + v ≡ u → s.phase + v < f s.phase (s.phase + v) → u < f x u
+          far : (v : ℕ) → x + v ≡ u → s.last.phase + v < f s.last.phase (s.last.phase + v) → u < f x u
           far v e o =
-              let z : x + v < f x (x + v) = omega (arith, fam.shift s.phase x v, o, is, more-asked, held.based, held.past) in
+              let z : x + v < f x (x + v) = omega (arith, fam.shift s.last.phase x v, o, is, more-asked, held.based, held.past) in
               rw e at z
 
-      pub back_climbs : Climbs (f x) limit (s.reach - (s.phase - x))
+      pub back_climbs : Climbs (f x) limit (s.last.reach - (s.last.phase - x))
       back_climbs =
-          climb_from (f x) limit (s.reach - (s.phase - x)) (fam.rises x) (omega (arith, held.far, held.past)) (omega (arith, held.by, held.fits)) behind
+          climb_from (f x) limit (s.last.reach - (s.last.phase - x)) (fam.rises x) (omega (arith, held.far, held.past)) (omega (arith, held.by, held.fits)) behind
 
-      pub seen_found : (r : ℕ) → Bar s.best r → x ≤ limit → (t : ℕ) → window_at f limit x ≡ some t
-          → Seen f limit x s (record { best = cond (ltb r t) (record { window = t; phase = x }) s.best; phase = x; reach = t; base = a })
+      pub seen_found : (r : ℕ) → Bar s.best r → (t : ℕ) → window_at f limit x ≡ Some t
+          → Seen f limit x s (record { best = cond (ltb r t) (record { window = t; phase = x }) s.best; last = record { phase = x; reach = t; base = a } })
       unfolding window_at
-      seen_found r b l t e = ⊎_elim stays takes (le_or_lt t r)
+      seen_found r b t e = ⊎_elim stays takes (le_or_lt t r)
         where
           w : Window (f x) limit t
           w = window_found (f x) limit t e
@@ -207,8 +207,8 @@ module _ (f : ℕ → ℕ → ℕ) (c limit : ℕ) (fam : Family f c) where
           reached : x ≤ t
           reached = ⊎_elim (λ h. h) (λ h. absurd (omega (arith, held.early t (omega arith), fam.same t x t (omega arith) (omega arith), w.closes))) (le_or_lt x t)
 
-          told : (d : Worst) → t ≤ d.window → d.window ≤ limit → 1 ≤ d.phase → d.phase ≤ limit → window_at f limit d.phase ≡ some d.window → Fine f limit d 1
-              → Held f limit x (record { best = d; phase = x; reach = t; base = a })
+          told : (d : Worst) → t ≤ d.window → d.window ≤ limit → 1 ≤ d.phase → d.phase ≤ limit → window_at f limit d.phase ≡ Some d.window → Fine f limit d 1
+              → Held f limit x (record { best = d; last = record { phase = x; reach = t; base = a } })
           told d g h i j q o =
               record {
                 shown = i;
@@ -218,7 +218,7 @@ module _ (f : ℕ → ℕ → ℕ) (c limit : ℕ) (fam : Family f c) where
                 early = λ u m. held.early u (omega arith);
                 past = omega arith;
                 based = is;
-                under = λ u m n. unmet_all f c limit fam x t w u n;
+                under = λ u m n. unmet_all fam x t w u n;
                 shuts = w.closes;
                 far = reached;
                 by = g;
@@ -226,7 +226,7 @@ module _ (f : ℕ → ℕ → ℕ) (c limit : ℕ) (fam : Family f c) where
               }
 
           Goal : Worst → Type 0
-          Goal d = Seen f limit x s (record { best = d; phase = x; reach = t; base = a })
+          Goal d = Seen f limit x s (record { best = d; last = record { phase = x; reach = t; base = a } })
 
           stays : t ≤ r → Goal (cond (ltb r t) (record { window = t; phase = x }) s.best)
           stays h =
@@ -243,7 +243,7 @@ module _ (f : ℕ → ℕ → ℕ) (c limit : ℕ) (fam : Family f c) where
               let o = held.one in
               rw (lt-ltb r t h)
               (record {
-                held = told n (omega arith) w.within pos l e
+                held = told n (omega arith) w.within pos (omega (arith, held.past, held.far, held.by, held.fits)) e
                     (record { v = o.v; some = o.some; shuts = o.shuts; by = omega (arith, o.by, b.near); less = λ i. lesser o.v o.by o.less h });
                 fine = record { v = t; some = w.first; shuts = w.closes; by = omega arith; less = λ i. absurd (omega arith) };
                 keeps = λ y i d. record { v = d.v; some = d.some; shuts = d.shuts; by = omega (arith, d.by, b.near); less = λ j. absurd (omega arith) };

@@ -4,7 +4,7 @@ use mathlib.Core.Path.{◌≡◌, refl, ap, ◌∙◌}
 use mathlib.Core.Bool.{Bool, true, false, cond}
 use mathlib.Core.Logic.{inl, inr}
 use mathlib.Core.List.{List}
-use mathlib.Core.Option.{Option, none, some}
+use Rattle.std.specs.Prelude.{Option, None, Some}
 use lib.ListN.{length, get_or}
 use native.Mathlib.Omega.{arith}
 use native.Mathlib.Nat.{le_refl, eq-zero-or-pos, not-suc-le-zero, zero-mul}
@@ -17,15 +17,17 @@ use Rattle.base.proofs.Search.{Within, window_found, window_by}
 use Rattle.block.specs.declared.Task.{Task}
 use Rattle.block.specs.Checks.{no_task}
 use Rattle.block.specs.Legal.{Legal}
-use Rattle.window.specs.Order.{Kind, completed, aborted, new, kind_at, kind_of, above}
+use Rattle.block.specs.declared.Kind.{Kind}
+use Rattle.block.specs.declared.Kind.TheVariants.{Completed, Aborted, New}
+use Rattle.window.specs.Order.{kind_at, kind_of, above}
 use Rattle.window.specs.Demand.{own_time, sum_above, jobs, old_term, steady_demand, phase_demand}
 
 -- ---- the same for an old task
 
 pub old_rises : (k : Kind) (x : Task) (a b : ℕ) → a ≤ b → old_term k x a ≤ old_term k x b
-old_rises completed x a b h = jobs_rise x.period x.execution a b h
-old_rises aborted x a b h = cut_rises x.period x.execution a b h
-old_rises new x a b h = omega arith
+old_rises Completed x a b h = jobs_rise x.period x.execution a b h
+old_rises Aborted x a b h = cut_rises x.period x.execution a b h
+old_rises New x a b h = omega arith
 
 old_le : (k : ℕ) (x : Task) (t : ℕ) → k < 2 → 1 ≤ x.period → old_term (kind_at k) x t ≤ jobs x t
 old_le zero x t l p = le_refl (jobs x t)
@@ -61,7 +63,7 @@ module _ (limit : ℕ) where
   abbrev Carries : (ℕ → ℕ) → (ℕ → ℕ) → Type 0
   Carries f g = (t : ℕ) → 1 ≤ t → t ≤ limit → f t ≤ t → Closed g t
 
-  carried : (f g : ℕ → ℕ) (s : ℕ) → Carries f g → window_of f limit ≡ some s → Within (window_of g limit) s
+  carried : (f g : ℕ → ℕ) (s : ℕ) → Carries f g → window_of f limit ≡ Some s → Within (window_of g limit) s
   carried f g s h e =
       let w = window_found f limit s e in
       let k = h s w.first w.within w.closes in
@@ -72,14 +74,14 @@ module _ (limit : ℕ) where
   same_window f g a b = go (window_of f limit) (window_of g limit) refl refl
     where
       go : (o p : Option ℕ) → window_of f limit ≡ o → window_of g limit ≡ p → window_of f limit ≡ window_of g limit
-      go none none q r = cc
-      go (some s) none q r = let w = carried f g s a q in let e : window_of g limit ≡ some w.at = w.is in let z : ◌≡◌ {A = ℕ} 0 1 = cc in absurd (omega arith)
-      go none (some t) q r = let w = carried g f t b r in let e : window_of f limit ≡ some w.at = w.is in let z : ◌≡◌ {A = ℕ} 0 1 = cc in absurd (omega arith)
-      go (some s) (some t) q r =
+      go None None q r = cc
+      go (Some s) None q r = let w = carried f g s a q in let e : window_of g limit ≡ Some w.at = w.is in let z : ◌≡◌ {A = ℕ} 0 1 = cc in absurd (omega arith)
+      go None (Some t) q r = let w = carried g f t b r in let e : window_of f limit ≡ Some w.at = w.is in let z : ◌≡◌ {A = ℕ} 0 1 = cc in absurd (omega arith)
+      go (Some s) (Some t) q r =
           let v = carried f g s a q in
           let w = carried g f t b r in
-          let e : window_of g limit ≡ some v.at = v.is in
-          let i : window_of f limit ≡ some w.at = w.is in
+          let e : window_of g limit ≡ Some v.at = v.is in
+          let i : window_of f limit ≡ Some w.at = w.is in
           let m : v.at ≡ t = cc in
           let n : w.at ≡ s = cc in
           let l : s ≡ t = omega (arith, v.by, w.by) in

@@ -2,7 +2,7 @@
 use Prim.Native.Nat.{ℕ, zero, suc, ◌≤◌, ◌<◌}
 use mathlib.Core.Path.{◌≡◌, refl}
 use mathlib.Core.Bool.{cond}
-use mathlib.Core.Option.{Option, none, some}
+use Rattle.std.specs.Prelude.{Option, None, Some, Result, Ok, Err}
 use mathlib.Core.Logic.{⊎_elim}
 use lib.Dec.{ltb}
 use borrow.Author.Tests.{le-ltb, lt-ltb}
@@ -11,32 +11,30 @@ use native.Mathlib.Nat.{eq-or-lt_of_le}
 use Rattle.base.specs.Search.{window_of}
 use Rattle.base.proofs.Search.{window_found, le_or_lt}
 use Rattle.window.specs.declared.Worst.{Worst}
-use Rattle.window.specs.declared.Swept.{Swept}
-use Rattle.window.specs.declared.Swept.TheVariants.{Over, LateAt}
 use Rattle.window.specs.Worst.{take_of, next_of, sweep}
 
-at_same : (r : Option ℕ) (a b : ℕ) → r ≡ some a → r ≡ some b → a ≡ b
+at_same : (r : Option ℕ) (a b : ℕ) → r ≡ Some a → r ≡ Some b → a ≡ b
 at_same r a b p q = cc
 
 pub record IsWorst (g : ℕ → Option ℕ) (n : ℕ) (s : Worst) : Type 0 where
-  pub top : (x : ℕ) → 1 ≤ x → x ≤ n → (t : ℕ) × (g x ≡ some t) × (t ≤ s.window)
-  pub early : (x t : ℕ) → 1 ≤ x → x < s.phase → g x ≡ some t → t < s.window
+  pub top : (x : ℕ) → 1 ≤ x → x ≤ n → (t : ℕ) × (g x ≡ Some t) × (t ≤ s.window)
+  pub early : (x t : ℕ) → 1 ≤ x → x < s.phase → g x ≡ Some t → t < s.window
   pub within : s.phase ≤ n
-  pub gives : 1 ≤ n → (1 ≤ s.phase) × (g s.phase ≡ some s.window)
+  pub gives : 1 ≤ n → (1 ≤ s.phase) × (g s.phase ≡ Some s.window)
   pub empty : n ≡ 0 → s.window ≡ 0
 
 pub record IsLate (g : ℕ → Option ℕ) (n y : ℕ) : Type 0 where
   pub first : 1 ≤ y
   pub within : y ≤ n
-  pub late : g y ≡ none
-  pub early : (x : ℕ) → 1 ≤ x → x < y → (t : ℕ) × (g x ≡ some t)
+  pub late : g y ≡ None
+  pub early : (x : ℕ) → 1 ≤ x → x < y → (t : ℕ) × (g x ≡ Some t)
 
-abbrev pub IsSwept : (ℕ → Option ℕ) → ℕ → Swept → Type 0
-IsSwept g n (Over s) = IsWorst g n s
-IsSwept g n (LateAt y) = IsLate g n y
+abbrev pub IsSwept : (ℕ → Option ℕ) → ℕ → Result Worst ℕ → Type 0
+IsSwept g n (Ok s) = IsWorst g n s
+IsSwept g n (Err y) = IsLate g n y
 
-module _ (g : ℕ → Option ℕ) (pos : (x t : ℕ) → g x ≡ some t → 1 ≤ t) where
-  step_at : (n : ℕ) (s : Worst) (t : ℕ) → IsWorst g n s → g (suc n) ≡ some t → IsWorst g (suc n) (take_of s t (suc n))
+module _ (g : ℕ → Option ℕ) (pos : (x t : ℕ) → g x ≡ Some t → 1 ≤ t) where
+  step_at : (n : ℕ) (s : Worst) (t : ℕ) → IsWorst g n s → g (suc n) ≡ Some t → IsWorst g (suc n) (take_of s t (suc n))
   unfolding take_of
   step_at n s t k e = ⊎_elim notlarger larger (le_or_lt t s.window)
     where
@@ -62,11 +60,11 @@ module _ (g : ℕ → Option ℕ) (pos : (x t : ℕ) → g x ≡ some t → 1 �
             empty = λ a. absurd (omega arith);
           })
 
-  step_swept : (n : ℕ) (r : Swept) (o : Option ℕ) → g (suc n) ≡ o → IsSwept g n r → IsSwept g (suc n) (next_of r o (suc n))
+  step_swept : (n : ℕ) (r : Result Worst ℕ) (o : Option ℕ) → g (suc n) ≡ o → IsSwept g n r → IsSwept g (suc n) (next_of r o (suc n))
   unfolding next_of
-  step_swept n (LateAt y) o e k = record { first = k.first; within = omega (arith, k.within); late = k.late; early = k.early }
-  step_swept n (Over s) (some t) e k = step_at n s t k e
-  step_swept n (Over s) none e k = record { first = omega arith; within = omega arith; late = e; early = λ x a b. let m = k.top x a (omega arith) in (m.0, m.1) }
+  step_swept n (Err y) o e k = record { first = k.first; within = omega (arith, k.within); late = k.late; early = k.early }
+  step_swept n (Ok s) (Some t) e k = step_at n s t k e
+  step_swept n (Ok s) None e k = record { first = omega arith; within = omega arith; late = e; early = λ x a b. let m = k.top x a (omega arith) in (m.0, m.1) }
 
   is_swept : (n : ℕ) → IsSwept g n (sweep g n)
   unfolding sweep

@@ -1,13 +1,7 @@
 -- What the phase loop keeps between phases that go by backwards. Definitions only.
-use Rattle.std.specs.Prelude.{ℕ, ◌+◌, ◌≤◌, ◌<◌, ◌≡◌}
-use Rattle.std.proofs.Math.Option.{Option, some}
+use Rattle.std.specs.Prelude.{ℕ, ◌+◌, ◌≤◌, ◌<◌, ◌≡◌, Option, None, Some, Ok}
 use Rattle.window.specs.declared.Worst.{Worst}
-use Rattle.window.specs.declared.Swept.TheVariants.{Over}
 use Rattle.window.specs.declared.Back.{Back}
-use Rattle.window.specs.declared.Turn.{Turn}
-use Rattle.window.specs.declared.Turn.TheVariants.{On, Off}
-use Rattle.window.specs.declared.Tried.{Tried}
-use Rattle.window.specs.declared.Tried.TheVariants.{Found, Lost}
 use Rattle.window.specs.Worst.{sweep}
 use Rattle.window.specs.Phases.{window_at}
 
@@ -31,15 +25,15 @@ module _ (f : ℕ → ℕ → ℕ) (limit : ℕ) where
   pub record Held (x : ℕ) (s : Back) : Type 0 where
     pub shown : 1 ≤ s.best.phase
     pub inside : s.best.phase ≤ limit
-    pub gives : window_at f limit s.best.phase ≡ some s.best.window
+    pub gives : window_at f limit s.best.phase ≡ Some s.best.window
     pub one : Fine s.best 1
     pub early : (u : ℕ) → u < x → u < f u u
-    pub past : x ≤ s.phase
-    pub based : s.base ≡ f s.phase s.phase
-    pub under : (u : ℕ) → s.phase ≤ u → u < s.reach → u < f s.phase u
-    pub shuts : f s.phase s.reach ≤ s.reach
-    pub far : s.phase ≤ s.reach
-    pub by : s.reach ≤ s.best.window
+    pub past : x ≤ s.last.phase
+    pub based : s.last.base ≡ f s.last.phase s.last.phase
+    pub under : (u : ℕ) → s.last.phase ≤ u → u < s.last.reach → u < f s.last.phase u
+    pub shuts : f s.last.phase s.last.reach ≤ s.last.reach
+    pub far : s.last.phase ≤ s.last.reach
+    pub by : s.last.reach ≤ s.best.window
     pub fits : s.best.window ≤ limit
 
   -- phase x was seen from s, and r is the state after it
@@ -48,11 +42,11 @@ module _ (f : ℕ → ℕ → ℕ) (limit : ℕ) where
     pub fine : Fine r.best x
     pub keeps : (y : ℕ) → x < y → Fine s.best y → Fine r.best y
 
-  unfoldable pub Turned : ℕ → Back → Turn → Type 0
-  Turned x s (On r) = Seen x s r
-  Turned x s Off = Unit {0}
+  unfoldable pub Turned : ℕ → Back → Option Back → Type 0
+  Turned x s (Some r) = Seen x s r
+  Turned x s None = Unit {0}
 
 -- what was found is the worst of all phases
-unfoldable pub Tells : (ℕ → Option ℕ) → ℕ → Tried → Type 0
-Tells g limit (Found w) = sweep g limit ≡ Over w
-Tells g limit Lost = Unit {0}
+unfoldable pub Tells : (ℕ → Option ℕ) → ℕ → Option Worst → Type 0
+Tells g limit (Some w) = sweep g limit ≡ Ok w
+Tells g limit None = Unit {0}

@@ -3,7 +3,9 @@ use Rattle.std.specs.Prelude.{ℕ, ◌+◌, ◌-◌, min, cond, List}
 use Rattle.base.specs.Sums.{sum_of}
 use Rattle.base.specs.Numbers.{jobs_in, cut_in}
 use Rattle.block.specs.declared.Task.{Task}
-use Rattle.window.specs.Order.{Kind, completed, aborted, new, kind_of, above}
+use Rattle.block.specs.declared.Kind.{Kind}
+use Rattle.block.specs.declared.Kind.TheVariants.{Completed, Aborted, New}
+use Rattle.window.specs.Order.{kind_of, above}
 
 -- a sum over those tasks of a list that are above i
 unfoldable pub sum_above : Task → (Task → ℕ) → List Task → ℕ
@@ -26,9 +28,9 @@ steady_demand own i t = own_time i + sum_above i (λ k. jobs k t) own
 
 -- what an old task adds in m ticks before the request
 abbrev pub old_term : Kind → Task → ℕ → ℕ
-old_term completed k m = jobs k m
-old_term aborted k m = cut k m
-old_term new k m = 0
+old_term Completed k m = jobs k m
+old_term Aborted k m = cut k m
+old_term New k m = 0
 
 -- a completed old task i at phase x, the request coming x ticks after the window starts
 unfoldable pub phase_demand : List Task → List Task → Task → ℕ → ℕ → ℕ
@@ -37,9 +39,9 @@ phase_demand olds news i x t =
 
 -- what an old task leaves at the request
 abbrev pub left_term : Kind → Task → ℕ
-left_term completed k = k.execution
-left_term aborted k = 0
-left_term new k = 0
+left_term Completed k = k.execution
+left_term Aborted k = 0
+left_term New k = 0
 
 -- a new task i, from the request
 unfoldable pub request_demand : List Task → List Task → Task → ℕ → ℕ

@@ -1,21 +1,16 @@
-// The search for the least closing t, and the worst window over all phases.
+// The kind of a task, the search for the least closing t, and the worst window over all phases.
 
 #![tactic(auto)]
 
 ghost use Rattle.std.specs.Prelude.{◌≡◌, ◌+◌, ◌<◌, ◌≤◌, ◌-◌, min, max, cond, ltb};
 ghost use Rattle.base.specs.Search.{window_of, Climbs};
-ghost use Rattle.term.specs.Terms.{Ready, flat_demand};
+ghost use Rattle.window.specs.Order.{kind_of};
 ghost use Rattle.window.specs.Worst.{take_of, sweep};
-ghost use Rattle.window.specs.Phases.{closing_of, window_at, course_of, Begun, Kept, Stepped};
+ghost use Rattle.window.specs.Phases.{asks, window_at, course_of, Begun, Kept, Stepped};
 ghost use Rattle.window.specs.Behind.{Bar, Held, Turned, Tells};
-ghost use Rattle.std.proofs.Math.Option.{some};
 
-// Where a window closed, or that it did not close in time.
-#[derive(Clone, Copy)]
-pub enum Closing {
-    At(u64),
-    Late,
-}
+use block::{Kind, Task};
+use term::Demand;
 
 // The largest window so far, with its smallest phase.
 #[derive(Clone, Copy)]
@@ -24,376 +19,250 @@ pub struct Worst {
     pub phase: u64,
 }
 
-// What the phases so far gave: the worst window, or the first late phase.
-#[derive(Clone, Copy)]
-pub enum Swept {
-    Over(Worst),
-    LateAt(u64),
-}
-
-// What all phases gave, and the window at the last one.
+// What all phases gave, the worst window or the first late phase; and the window at the last one.
 #[derive(Clone, Copy)]
 pub struct Course {
-    pub swept: Swept,
-    pub last: Closing,
+    pub swept: Result<Worst, u64>,
+    pub last: Option<u64>,
 }
 
-// Between phases: the worst so far, where searches may start, and a time at which the phase just seen closes; then the last
-// phase that was searched, its window, and its demand at the request itself (0 where none was searched).
+// The last phase that was searched, how far its window reached, and its demand at the request itself (all 0 where none was searched).
+#[derive(Clone, Copy)]
+pub struct Searched {
+    pub phase: u64,
+    pub reach: u64,
+    pub base: u64,
+}
+
+// Between phases: the worst so far, where searches may start, a time at which the phase just seen closes, and the last search.
 #[derive(Clone, Copy)]
 pub struct State {
     pub best: Worst,
     pub start: u64,
     pub shut: u64,
-    pub phase: u64,
-    pub reach: u64,
-    pub base: u64,
+    pub last: Searched,
 }
 
-#[derive(Clone, Copy)]
-pub enum Step {
-    Go(State),
-    Stop,
-}
-
-// Between phases that go by backwards: the worst so far, then the last phase that was searched, its window, and its demand at
-// the request itself.
+// Between phases that go by backwards: the worst so far, and the last search.
 #[derive(Clone, Copy)]
 pub struct Back {
     pub best: Worst,
-    pub phase: u64,
-    pub reach: u64,
-    pub base: u64,
+    pub last: Searched,
 }
 
+// The phases of one task's windows, from 1 to the limit.
 #[derive(Clone, Copy)]
-pub enum Turn {
-    On(Back),
-    Off,
+pub struct Windows<'a> {
+    pub demand: Demand<'a>,
+    pub limit: u64,
+    pub ghost some: { 1 ≤ demand.own },
+    pub ghost fits: { demand.own ≤ limit },
+    pub ghost few: { limit < 65536 },
 }
 
-// The worst window over all phases, or that some phase is late.
-#[derive(Clone, Copy)]
-pub enum Tried {
-    Found(Worst),
-    Lost,
-}
-
-// The least closing t up to the limit, the request coming at x, where none below `start` closes.
-pub fn search<'a>(
-    old: &'a [u64],
-    n: usize,
-    new: &'a [u64],
-    k: usize,
-    c: u64,
-    x: u64,
-    start: u64,
-    limit: u64,
-) -> Closing
-    requires ready { Ready old.now n × Ready new.now k × (c < 2097152) × (limit < 131072) }
-    requires climbs { Climbs (flat_demand old.now n new.now k c x) limit start }
-    ensures { result ≡ closing_of (window_of (flat_demand old.now n new.now k c x) limit) }
+// The kind that the number of a task's record stands for.
+pub fn kind_of(x: Task) -> Kind
+    ensures { result ≡ kind_of x }
 {
-    let mut t: u64 = start;
+    match x.kind {
+        0 => Kind::Completed,
+        1 => Kind::Aborted,
+        _ => Kind::New,
+    }
+}
+
+// The least closing t up to the limit, the request coming at x, where none below `start` closes. The loop that yields by `break`
+// is the form that document 01 asks for.
+#[tactic(auto, using(term::proofs::Terms::flat_rises))]
+pub fn search<'a>(demand: Demand<'a>, x: u64, start: u64, limit: u64) -> Option<u64>
+    requires small { limit < 131072 }
+    requires climbs { Climbs (asks demand x) limit start }
+    ensures { result ≡ window_of (asks demand.entry x) limit }
+{
+    let mut t = start;
     loop {
-        let d = term::demand(old, n, new, k, c, x, t);
+        let d = demand.at(x, t);
         if d == t {
-            break Closing::At(t);
+            break Some(t);
         }
         if limit < d {
-            break Closing::Late;
+            break None;
         }
         t = d;
     }
 }
 
 impl Worst {
+    #[tactic(auto, unfolding(crate::specs::Worst::take_of))]
     pub fn take(self, window: u64, phase: u64) -> Worst
         ensures { result ≡ take_of self window phase }
     {
-        if self.window < window {
-            return Worst {
-                window: window,
-                phase: phase,
-            };
-        }
-        self
+        self.take_over(self.window, window, phase)
     }
 
-    // The same backwards: a window at an earlier phase is kept where it passes the bar.
-    fn take_back(self, bar: u64, window: u64, phase: u64) -> Worst
+    // A window is kept where it passes the bar.
+    fn take_over(self, bar: u64, window: u64, phase: u64) -> Worst
         ensures { result ≡ cond (ltb bar window) (record { window = window; phase = phase }) self }
     {
         if bar < window {
-            return Worst {
-                window: window,
-                phase: phase,
-            };
+            Worst { window, phase }
+        } else {
+            self
         }
-        self
+    }
+
+    // The largest window that changes nothing at an earlier phase: of equal ones the smaller phase counts.
+    fn bar(self) -> u64
+        requires { 1 ≤ self.window }
+        ensures { Bar self result }
+    {
+        if 1 < self.phase {
+            self.window - 1
+        } else {
+            self.window
+        }
     }
 }
 
-// Where later searches may start, once the window at x closed at t.
-fn start_after(start: u64, t: u64, x: u64) -> u64
-    requires { x < 65536 }
-    ensures { result ≡ max start (min t (x + 1)) }
-{
-    if t < x + 1 {
-        return term::larger(start, t);
+impl State {
+    // Where the search at x may start: as far behind the request as the last window, if the old tasks have since asked for all
+    // the time that went by.
+    fn start_at(self, x: u64, a: u64, limit: u64) -> u64
+        requires { (self.last.phase < x) × (x ≤ limit) × (self.last.reach ≤ limit) × (limit < 65536) }
+        ensures { Begun self x a limit result }
+    {
+        let Searched { phase, reach, base } = self.last;
+        let gone = x - phase;
+        if reach <= phase || base < x || a.saturating_sub(base) < gone {
+            return self.start;
+        }
+        self.start.max(limit.min(reach + gone))
     }
-    term::larger(start, x + 1)
 }
 
-// Where the search at x may start: as far behind the request as the last window, if the old tasks have since asked for all
-// the time that went by.
-fn start_at(s: State, x: u64, a: u64, limit: u64) -> u64
-    requires { (s.phase < x) × (x ≤ limit) × (s.reach ≤ limit) × (limit < 65536) }
-    ensures { Begun s x a limit result }
-{
-    let start = s.start;
-    if s.reach <= s.phase {
-        return start;
-    }
-    if s.base < x {
-        return start;
-    }
-    if a < s.base {
-        return start;
-    }
-    let gone = x - s.phase;
-    if a - s.base < gone {
-        return start;
-    }
-    term::larger(start, term::least(s.reach + gone, limit))
-}
-
-// One phase: it brings nothing where it closes at the worst so far, else its window is searched for.
-fn see<'a>(
-    old: &'a [u64],
-    n: usize,
-    new: &'a [u64],
-    k: usize,
-    c: u64,
-    limit: u64,
-    s: State,
-    x: u64,
-) -> Step
-    requires ready { Ready old.now n × Ready new.now k × (1 ≤ c) × (c ≤ limit) × (limit < 65536) × (x ≤ limit) }
-    requires kept { Kept (flat_demand old.now n new.now k c) c limit x s }
-    ensures { Stepped (flat_demand old.now n new.now k c) c limit x s result }
-{
-    let best = s.best;
-    let start = s.start;
-    let w = best.window;
-    if term::demand(old, n, new, k, c, x, w) <= w {
-        return Step::Go(State {
-            best: best,
-            start: start,
-            shut: w,
-            phase: s.phase,
-            reach: s.reach,
-            base: s.base,
-        });
-    }
-    let a = term::demand(old, n, new, k, c, x, x);
-    match search(old, n, new, k, c, x, start_at(s, x, a, limit), limit) {
-        Closing::At(t) => {
-            let b = best.take(t, x);
-            let f = start_after(start, t, x);
-            Step::Go(State {
-                best: b,
-                start: f,
-                shut: t,
+impl<'a> Windows<'a> {
+    // One phase: it brings nothing where it closes at the worst so far, else its window is searched for.
+    #[tactic(auto, unfolding(crate::specs::Phases::Stepped, crate::specs::Phases::window_at))]
+    fn see(self, s: State, x: u64) -> Option<State>
+        requires within { x ≤ self.limit }
+        requires kept { Kept (asks self.demand) self.demand.own self.limit x s }
+        ensures { Stepped (asks self.entry.demand) self.entry.demand.own self.entry.limit x s result }
+    {
+        let w = s.best.window;
+        if self.demand.at(x, w) <= w {
+            return Some(State { shut: w, ..s });
+        }
+        let a = self.demand.at(x, x);
+        let t = search(self.demand, x, s.start_at(x, a, self.limit), self.limit)?;
+        Some(State {
+            best: s.best.take(t, x),
+            start: s.start.max(t.min(x + 1)),
+            shut: t,
+            last: Searched {
                 phase: x,
                 reach: t,
                 base: a,
-            })
+            },
+        })
+    }
+
+    // One phase, backwards: it brings nothing where it closes at the bar, or where the old tasks ask for too little before it to
+    // reach as far behind the request as the last window; else its window is searched for from there.
+    #[tactic(auto, unfolding(crate::specs::Behind::Turned))]
+    fn look(self, s: Back, x: u64) -> Option<Back>
+        requires some { 1 ≤ x }
+        requires held { Held (asks self.demand) self.limit (x + 1) s }
+        ensures { Turned (asks self.entry.demand) self.entry.limit x s result }
+    {
+        let bar = s.best.bar();
+        if x == 1 || self.demand.at(x, bar) <= bar {
+            return Some(s);
         }
-        Closing::Late => Step::Stop,
-    }
-}
-
-// The largest window that changes nothing at an earlier phase: of equal ones the smaller phase counts.
-fn bar_of(best: Worst) -> u64
-    requires { 1 ≤ best.window }
-    ensures { Bar best result }
-{
-    if 1 < best.phase {
-        return best.window - 1;
-    }
-    best.window
-}
-
-// One phase, backwards: it brings nothing where it closes at the bar, or where the old tasks ask for too little before it to
-// reach as far behind the request as the last window; else its window is searched for from there.
-fn look<'a>(
-    old: &'a [u64],
-    n: usize,
-    new: &'a [u64],
-    k: usize,
-    c: u64,
-    limit: u64,
-    s: Back,
-    x: u64,
-) -> Turn
-    requires ready { Ready old.now n × Ready new.now k × (1 ≤ c) × (c ≤ limit) × (limit < 65536) × (1 ≤ x) }
-    requires held { Held (flat_demand old.now n new.now k c) limit (x + 1) s }
-    ensures { Turned (flat_demand old.now n new.now k c) limit x s result }
-{
-    let best = s.best;
-    let bar = bar_of(best);
-    if x == 1 {
-        return Turn::On(s);
-    }
-    if term::demand(old, n, new, k, c, x, bar) <= bar {
-        return Turn::On(s);
-    }
-    let a = term::demand(old, n, new, k, c, x, x);
-    let gone = s.phase - x;
-    if gone <= term::less(s.base, a) {
-        return Turn::On(s);
-    }
-    match search(old, n, new, k, c, x, s.reach - gone, limit) {
-        Closing::At(t) => {
-            let b = best.take_back(bar, t, x);
-            Turn::On(Back {
-                best: b,
+        let a = self.demand.at(x, x);
+        let gone = s.last.phase - x;
+        if gone <= s.last.base.saturating_sub(a) {
+            return Some(s);
+        }
+        let t = search(self.demand, x, s.last.reach - gone, self.limit)?;
+        Some(Back {
+            best: s.best.take_over(bar, t, x),
+            last: Searched {
                 phase: x,
                 reach: t,
                 base: a,
-            })
-        }
-        Closing::Late => Turn::Off,
-    }
-}
-
-// Backwards from where the windows settle: each search starts where the last one ended.
-fn backwards<'a>(
-    old: &'a [u64],
-    n: usize,
-    new: &'a [u64],
-    k: usize,
-    c: u64,
-    limit: u64,
-    settled: u64,
-    first: u64,
-) -> Tried
-    requires ready { Ready old.now n × Ready new.now k × (1 ≤ c) × (c ≤ limit) × (limit < 65536) }
-    requires known { (window_at (flat_demand old.now n new.now k c) limit limit ≡ some settled) × (window_at (flat_demand old.now n new.now k c) limit 1 ≡ some first) }
-    ensures { Tells (window_at (flat_demand old.now n new.now k c) limit) limit result }
-{
-    let one = Worst {
-        window: first,
-        phase: 1,
-    };
-    let mut s = Back {
-        best: one.take(settled, settled),
-        phase: settled,
-        reach: settled,
-        base: settled,
-    };
-    let mut x: u64 = settled;
-    while 1 < x {
-        let z = term::prev_phase(old, n, x - 2);
-        match look(old, n, new, k, c, limit, s, z) {
-            Turn::On(r) => {
-                s = r;
-                x = z;
-            }
-            Turn::Off => {
-                return Tried::Lost;
-            }
-        }
-    }
-    let worst = s.best;
-    Tried::Found(worst)
-}
-
-// Backwards, where the window at 1 closes as well.
-fn try_back<'a>(
-    old: &'a [u64],
-    n: usize,
-    new: &'a [u64],
-    k: usize,
-    c: u64,
-    limit: u64,
-    settled: u64,
-) -> Tried
-    requires ready { Ready old.now n × Ready new.now k × (1 ≤ c) × (c ≤ limit) × (limit < 65536) }
-    requires known { window_at (flat_demand old.now n new.now k c) limit limit ≡ some settled }
-    ensures { Tells (window_at (flat_demand old.now n new.now k c) limit) limit result }
-{
-    match search(old, n, new, k, c, 1, c, limit) {
-        Closing::At(first) => backwards(old, n, new, k, c, limit, settled, first),
-        Closing::Late => Tried::Lost,
-    }
-}
-
-// The same forwards: it finds the first late phase, but may search far at every phase.
-fn forwards<'a>(old: &'a [u64], n: usize, new: &'a [u64], k: usize, c: u64, limit: u64) -> Swept
-    requires { Ready old.now n × Ready new.now k × (1 ≤ c) × (c ≤ limit) × (limit < 65536) }
-    ensures { result ≡ sweep (window_at (flat_demand old.now n new.now k c) limit) limit }
-{
-    let none = Worst {
-        window: 0,
-        phase: 0,
-    };
-    let mut s = State {
-        best: none,
-        start: c,
-        shut: 0,
-        phase: 0,
-        reach: 0,
-        base: 0,
-    };
-    let mut x: u64 = 1;
-    while x <= limit {
-        match see(old, n, new, k, c, limit, s, x) {
-            Step::Go(r) => {
-                let worst = r.best;
-                if r.shut <= x {
-                    return Swept::Over(worst);
-                }
-                s = r;
-                x = term::next_phase(old, n, x, limit);
-            }
-            Step::Stop => {
-                return Swept::LateAt(x);
-            }
-        }
-    }
-    let worst = s.best;
-    Swept::Over(worst)
-}
-
-// The worst window over all phases from 1 to the limit with its smallest phase, or the first late phase; and the window at the limit.
-pub fn over_phases<'a>(
-    old: &'a [u64],
-    n: usize,
-    new: &'a [u64],
-    k: usize,
-    c: u64,
-    limit: u64,
-) -> Course
-    requires { Ready old.now n × Ready new.now k × (1 ≤ c) × (c ≤ limit) × (limit < 65536) }
-    ensures { result ≡ course_of (window_at (flat_demand old.now n new.now k c) limit) limit }
-{
-    let last = search(old, n, new, k, c, limit, c, limit);
-    match last {
-        Closing::At(settled) => match try_back(old, n, new, k, c, limit, settled) {
-            Tried::Found(w) => Course {
-                swept: Swept::Over(w),
-                last,
             },
-            Tried::Lost => Course {
-                swept: forwards(old, n, new, k, c, limit),
-                last,
+        })
+    }
+
+    // Backwards from the window at the limit, if that at 1 closes as well, by the phases at which the old tasks grow: each search
+    // starts where the last one ended.
+    #[tactic(auto, using(term::proofs::Terms::flat_least, term::proofs::Terms::phase_some, term::proofs::Terms::phase_by), unfolding(crate::specs::Behind::Tells))]
+    fn backwards(self, last: Option<u64>) -> Option<Worst>
+        requires { last ≡ window_at (asks self.demand) self.limit self.limit }
+        ensures { Tells (window_at (asks self.entry.demand) self.entry.limit) self.entry.limit result }
+    {
+        let settled = last?;
+        let first = search(self.demand, 1, self.demand.own, self.limit)?;
+        let one = Worst {
+            window: first,
+            phase: 1,
+        };
+        let mut s = Back {
+            best: one.take(settled, settled),
+            last: Searched {
+                phase: settled,
+                reach: settled,
+                base: settled,
             },
-        },
-        Closing::Late => Course {
-            swept: forwards(old, n, new, k, c, limit),
-            last,
-        },
+        };
+        let mut x = settled;
+        while 1 < x {
+            x = self.demand.prev_phase(x - 2);
+            s = self.look(s, x)?;
+        }
+        Some(s.best)
+    }
+
+    // The same forwards, from each phase to the next at which the old tasks grow: it finds the first late phase, but may search far
+    // at every phase.
+    #[tactic(auto, using(crate::proofs::Phases::phase_later))]
+    fn forwards(self) -> Result<Worst, u64>
+        ensures { result ≡ sweep (window_at (asks self.entry.demand) self.entry.limit) self.entry.limit }
+    {
+        let mut s = State {
+            best: Worst {
+                window: 0,
+                phase: 0,
+            },
+            start: self.demand.own,
+            shut: 0,
+            last: Searched {
+                phase: 0,
+                reach: 0,
+                base: 0,
+            },
+        };
+        let mut x = 1;
+        while x <= self.limit {
+            s = self.see(s, x).ok_or(x)?;
+            if s.shut <= x {
+                return Ok(s.best);
+            }
+            x = self.demand.next_phase(x, self.limit);
+        }
+        Ok(s.best)
+    }
+
+    // The worst window over all phases with its smallest phase, or the first late phase; and the window at the limit.
+    #[tactic(auto, using(term::proofs::Terms::flat_least), unfolding(crate::specs::Phases::window_at, crate::specs::Phases::course_of, crate::specs::Behind::Tells))]
+    pub fn over_phases(self) -> Course
+        ensures { result ≡ course_of (window_at (asks self.entry.demand) self.entry.limit) self.entry.limit }
+    {
+        let last = search(self.demand, self.limit, self.demand.own, self.limit);
+        let swept = match self.backwards(last) {
+            Some(worst) => Ok(worst),
+            None => self.forwards(),
+        };
+        Course { swept, last }
     }
 }

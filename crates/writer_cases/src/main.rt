@@ -9,15 +9,23 @@ ghost use Rattle.std.specs.Prelude.{◌<◌};
 use block::LIST_SIZE;
 use std::io;
 use std::io::Write;
-use tries::{MODE, MOST_BYTES, MOST_NUMBERS, number};
+use tries::{MODE, MOST_BYTES, MOST_NUMBERS, NO_BYTE, NO_NUMBER, number};
+
+// The place in a list that word k of a line names by a field and its word k + 2 by a task.
+fn place(line: &[u8], k: usize) -> Option<usize>
+    requires { k < 100 }
+{
+    let field = tries::field(tries::letter(line, k)?)?;
+    Some(LIST_SIZE * number(line, k + 2) as usize + field)
+}
 
 // Puts what word k + 4 of a line says where its word k names a field and its word k + 2 a task.
 fn put_number(list: &mut [u32], line: &[u8], k: usize)
     requires { k < 100 }
 {
-    let task = tries::length_of(line, k + 2, MOST_NUMBERS);
-    let at = LIST_SIZE * task + tries::field(tries::letter(line, k));
-    if at < list.len() {
+    if let Some(at) = place(line, k)
+        && at < list.len()
+    {
         list[at] = number(line, k + 4);
     }
 }
@@ -32,7 +40,7 @@ fn list_of(line: &[u8]) -> [u32; MOST_NUMBERS] {
 
 // Whether a block reads as the list that it was written from.
 fn reads_back(side: u32, bytes: &[u8], list: &[u32]) -> bool {
-    let mut again = tries::no_numbers();
+    let mut again = [NO_NUMBER; MOST_NUMBERS];
     reader::read(bytes, side, &mut again);
     tries::same_from(&again, list, 0)
 }
@@ -46,47 +54,31 @@ fn tell_write<W: Write>(
 ) -> io::Result<()> {
     let a = writer::write(side, MODE, list, bytes);
     says::say_outcome(to, a, &*bytes == before)?;
+    // The answer is the one C gets, in numbers.
     if a.code == 0 {
+        let same = reads_back(side, bytes, list);
         says::say_check(to, bytes)?;
-        says::say_back(to, reads_back(side, bytes, list))?;
+        says::say_whether(to, same, b", back same", b", back other")?;
     }
     Ok(())
 }
 
 fn write<W: Write>(to: &mut W, line: &[u8]) -> io::Result<()> {
+    let side = number(line, 5);
     let list = list_of(line);
-    let mut bytes = tries::no_bytes();
-    let before = tries::no_bytes();
+    let mut bytes = [NO_BYTE; MOST_BYTES];
+    let before = bytes;
     let size = tries::room(line, 0, LIST_SIZE, MOST_NUMBERS);
     let room = tries::length_of(line, 7, MOST_BYTES);
-    tell_write(
-        to,
-        number(line, 5),
-        &list[0..size],
-        &mut bytes[0..room],
-        &before[0..room],
-    )
+    tell_write(to, side, &list[..size], &mut bytes[..room], &before[..room])
 }
 
 // A line that does not start as a writing is only printed.
-fn try_line<W: Write>(to: &mut W, line: &[u8]) -> io::Result<()> {
-    says::say(to, line)?;
-    match line {
-        [b'w' | b's' | b'e', ..] => write(to, line)?,
-        _ => {}
-    }
-    says::say(to, b"\n")
-}
-
-fn try_lines<W: Write>(to: &mut W, text: &[u8]) -> io::Result<()> {
-    for line in text.split_inclusive(|b| *b == b'\n') {
-        try_line(to, line.strip_suffix(b"\n").unwrap_or(line))?;
-    }
-    Ok(())
-}
-
 fn main(rt: HostRuntime) -> io::Result<()> {
-    let mut text = [0u8; 65536];
+    let mut text = [0; 65536];
     let n = streams::read_full(&mut rt.stdin(), &mut text)?;
-    try_lines(&mut rt.stdout(), &text[..n])
+    says::say_lines(&mut rt.stdout(), &text[..n], |to, line| match line {
+        [b'w' | b's' | b'e', ..] => write(to, line),
+        _ => Ok(()),
+    })
 }

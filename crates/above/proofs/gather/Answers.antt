@@ -1,48 +1,22 @@
-use borrow.Author.Rules.{rules}
-use native.Mathlib.Omega.{arith}
-use Rattle.base.specs.Sums.{sum}
-use Prim.Native.Nat.{◌+◌}
-use mathlib.Core.Path.{◌≡◌, refl, ◌∙◌, ap}
-use native.Mathlib.Numerals.{add-one}
-use lib.ListN.{length}
-use Rattle.above.specs.Roll.{is_above, count_above, terms_above}
-use Rattle.above.proofs.Above.{one_le, count_more, terms_length}
+use Rattle.std.proofs.Common.{◌≡◌, arith, get_or, cond, ◌∙◌, sym}
+use Rattle.above.specs.Roll.{is_above, count_above, gathered}
+use Rattle.above.proofs.Above.{nobody, byte_is, one_le, terms_more, terms_none, count_more, count_none, gathered_front}
 use Rattle.above.proofs.gather.Goals as goal
 
-pub loop-j-init : goal.loop-j-init
-unfolding terms_above count_above sum
-loop-j-init c =
-    (search rules, refl, refl, search rules, refl)
+pub loop-r-preserved : goal.loop-r-preserved
+loop-r-preserved g c =
+    let rs = c.args.rolls.now in
+    let i = c.loop-r.r-index in
+    let b : c.from-count.result ≡ cond (is_above c.args.p (get_or rs i nobody)) 1 0 = c.from-count.ensures ∙ byte_is _ in (
+      omega (arith, count_more c.args.p rs i nobody c.loop-r-test.true),
+      omega (arith, one_le (is_above c.args.p (get_or rs i nobody))),
+      λ t e. rw (b, e i nobody c.loop-r-test.true _ c.term.ensures) (sym (terms_more t c.args.p rs i c.loop-r.count c.loop-r.terms nobody c.loop-r-test.true) ∙ c.loop-r.invariant.2 t e),
+    )
 
-pub overflow_mul-count : goal.overflow_mul-count
-overflow_mul-count c =
-    omega (arith, c.requires.0.few)
-
-pub put-requires : goal.put-requires
-put-requires c =
-    omega (arith, c.loop-j.invariant, c.requires.0.few)
-
-pub overflow_add-count : goal.overflow_add-count
-overflow_add-count c =
-    omega (arith, c.requires.0.few, c.counts-count.ensures, one_le (is_above c.args.rolls.now c.args.p c.loop-j.j))
-
-pub loop-j-preserved : goal.loop-j-preserved
-unfolding terms_above
-loop-j-preserved c =
-    let l = c.loop-j in
-    let a = c.args in
-    let e = c.put.ensures in
-    let m = count_more a.rolls.now a.p l.j in
-    let o = one_le (is_above a.rolls.now a.p l.j) in
-    let terms : c.put.new.nums ≡ terms_above a.rolls.now a.p a.which a.nums.now (l.j + 1) =
-    rw (add-one, e, l.invariant.2, ← l.invariant.1) in
-    (search rules, terms, omega (arith, c.counts-count.ensures), omega (arith, c.counts-count.ensures), ap length terms ∙ terms_length a.rolls.now a.p a.which a.nums.now (l.j + 1))
-
-pub shape_of-nums : goal.shape_of-nums
-shape_of-nums c =
-    c.loop-j.invariant.4
-
-pub returns : goal.returns
-returns c =
-    let e : c.loop-j.j ≡ c.args.n = omega arith in
-    (rw e at c.loop-j.invariant.1, rw e at c.loop-j.invariant.2)
+pub returns-clause-terms : goal.returns-clause-terms
+returns-clause-terms g c =
+    λ t e.
+    let rs = c.args.rolls.now in
+    let l : c.loop-r.terms ≡ gathered t c.args.p rs c.args.terms.now = sym (terms_none t c.args.p rs c.loop-r.r-index c.loop-r.count c.loop-r.terms (omega arith)) ∙ c.loop-r.invariant.2 t e in
+    let n : c.loop-r.count ≡ count_above c.args.p rs = omega (arith, count_none c.args.p rs c.loop-r.r-index (omega arith)) in
+    (l, rw l (gathered_front t c.args.p rs c.args.terms.now c.loop-r.count n c.requires.room))

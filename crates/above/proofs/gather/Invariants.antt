@@ -1,11 +1,10 @@
-use Prim.Native.Nat.{◌≤◌, ◌-◌}
-use mathlib.Core.Path.{◌≡◌}
-use lib.ListN.{length}
-use Rattle.above.specs.Roll.{count_above, terms_above}
+use Rattle.std.proofs.Common.{◌≡◌, ◌+◌, ◌≤◌, drop}
+use Rattle.above.specs.declared.Rolled.{Rolled}
+use Rattle.above.specs.Roll.{Gives, terms_from, gathered, count_above}
 use Rattle.above.proofs.gather.Given as goal
 
-abbrev pub invariant-loop-j : goal.invariant-loop-j
-invariant-loop-j l = (l.j ≤ l.n) × (l.nums ≡ terms_above l.rolls l.p l.which l.initial.nums l.j) × (l.count ≡ count_above l.rolls l.p l.j) × (l.count ≤ l.j) × (length l.nums ≡ length l.initial.nums)
-
-abbrev pub decreases-loop-j : goal.decreases-loop-j
-decreases-loop-j l = l.n - l.j
+abbrev pub invariant-loop-r : goal.invariant-loop-r
+invariant-loop-r g l =
+    (l.count + count_above l.p (drop l.r-index l.rolls) ≡ count_above l.p l.rolls)
+    × (l.count ≤ l.r-index)
+    × ((t : Rolled → g.row.T.Denot) → Gives (goal.F-post g l.term) t l.rolls → terms_from t l.p (drop l.r-index l.rolls) l.count l.terms ≡ gathered t l.p l.rolls l.initial.terms)

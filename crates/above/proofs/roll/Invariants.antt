@@ -1,10 +1,8 @@
-use Prim.Native.Nat.{◌≤◌, ◌-◌}
-use mathlib.Core.Path.{◌≡◌}
-use Rattle.above.specs.Roll.{roll_of, Rolled}
+use Rattle.std.proofs.Common.{◌≡◌, ◌++◌, map, take, drop}
+use Rattle.std.specs.Prelude.{All}
+use Rattle.term.specs.Terms.{Good}
+use Rattle.above.specs.Roll.{rolled}
 use Rattle.above.proofs.roll.Given as goal
 
 abbrev pub invariant-loop-j : goal.invariant-loop-j
-invariant-loop-j l = (l.j ≤ l.n) × (l.n ≡ l.table.count) × (l.nums ≡ roll_of l.initial.nums l.table.tasks l.j) × Rolled l.nums l.j
-
-abbrev pub decreases-loop-j : goal.decreases-loop-j
-decreases-loop-j l = l.n - l.j
+invariant-loop-j l = (l.rolls ≡ map rolled (take l.j l.tasks) ++ drop l.j l.initial.rolls) × All (λ r. Good r.old.jobs) (map rolled (take l.j l.tasks))

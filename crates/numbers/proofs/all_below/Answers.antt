@@ -1,27 +1,22 @@
-use Rattle.base.proofs.Lists.{every_all, every_not}
-use borrow.Author.Count.{below_more}
-use borrow.Author.Tests.{lt-ltb, le-ltb}
+use Rattle.base.specs.Lists.{every}
+use Rattle.std.specs.List.{list_all}
+use Rattle.std.proofs.Common.{tests, rules}
+use Rattle.std.proofs.lemmas.Iterator.{YieldsList-from_slice}
+use Rattle.std.proofs.lemmas.Iterator.Search.{all_from_yields_List}
 use lib.Dec.{ltb}
-use mathlib.Core.Path.{sym}
-use borrow.Author.Rules.{rules}
-use native.Mathlib.Omega.{arith}
+use mathlib.Core.Path.{◌≡◌, refl, ◌∙◌}
+use mathlib.Core.Bool.{Bool}
+use mathlib.Core.List.{List, [], ◌∷◌}
+use Prim.Native.Nat.{ℕ}
 use Rattle.numbers.proofs.all_below.Goals as goal
 
-pub loop-i-init : goal.loop-i-init
-loop-i-init c =
-    (search rules, λ u h. absurd (omega arith))
-
-pub returns-then-bound-numbers : goal.returns-then-bound-numbers
-returns-then-bound-numbers c =
-    let a = c.args in
-    sym (every_not (λ n. ltb n a.bound) a.numbers.now c.loop-i.i 0 (omega arith) (le-ltb _ _ c.if-bound-numbers.true))
-
-pub loop-i-preserved : goal.loop-i-preserved
-loop-i-preserved c =
-    (search rules, below_more _ _ c.loop-i.invariant.1 c.if-bound-numbers.false)
+all_every : (p : ℕ → Bool) (l : List ℕ) → list_all p l ≡ every p l
+unfolding every
+all_every p [] = refl
+all_every p (x ∷ xs) = rw (all_every p xs)
 
 pub returns : goal.returns
 returns c =
     let a = c.args in
-    let l = c.loop-i in
-    sym (every_all (λ n. ltb n a.bound) a.numbers.now 0 (λ i h. lt-ltb _ _ (l.invariant.1 i (omega arith))))
+    all_from_yields_List (λ n. ltb n a.bound) _ _ _ c.all.ensures.ran (YieldsList-from_slice a.numbers.now cc) (λ x b q k. search (rules, tests))
+    ∙ all_every (λ n. ltb n a.bound) a.numbers.now

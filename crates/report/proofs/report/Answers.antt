@@ -13,5 +13,5 @@ text_of_front (Ok x) (Some xs) P bs m n f w = subst P (ap printed (f ∙ ap (λ 
 
 pub returns : goal.returns
 returns g c =
-    text_of_front c.answer.result _ (Appends (g.W.Write.contents c.args.to.now) (g.W.Write.contents c.answer.new.to)) _ _
-    c.read_full.auto.buf c.in_ok-n.ensures.front c.answer.ensures
+    text_of_front c.write_text.result _ (Appends (g.W.Write.contents c.args.to.now) (g.W.Write.contents c.write_text.new.to)) _ _
+    c.read_full.auto.buf c.in_ok-n.ensures.front c.write_text.ensures

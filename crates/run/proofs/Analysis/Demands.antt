@@ -13,7 +13,9 @@ use Rattle.base.proofs.Sums.{sum_le, sum_eq, sum_add, sum_only, list_append, lis
 use Rattle.block.specs.declared.Task.{Task}
 use Rattle.block.specs.Checks.{no_task}
 use Rattle.block.specs.Legal.{Legal}
-use Rattle.window.specs.Order.{Kind, completed, aborted, new, kind_at, kind_of, rank, above}
+use Rattle.block.specs.declared.Kind.{Kind}
+use Rattle.block.specs.declared.Kind.TheVariants.{Completed, Aborted, New}
+use Rattle.window.specs.Order.{kind_at, kind_of, rank, above}
 use Rattle.window.specs.Demand.{sum_above, jobs, cut, steady_demand, old_term, phase_demand, left_term, request_demand}
 use Rattle.run.specs.Promise.{count, task}
 use Rattle.run.proofs.Picks.{pick, pick_le, pick_zero}
@@ -26,24 +28,24 @@ over_above n tk i b = sum n (λ j. pick (above (tk i) (tk j)) (b j))
 -- ---- a task's term: steady in the old mode, steady in the new one, at phase x, from the request
 
 abbrev pub steady_old : Kind → Task → ℕ → ℕ
-steady_old completed k t = jobs k t
-steady_old aborted k t = jobs k t
-steady_old new k t = 0
+steady_old Completed k t = jobs k t
+steady_old Aborted k t = jobs k t
+steady_old New k t = 0
 
 abbrev pub steady_new : Kind → Task → ℕ → ℕ
-steady_new completed k t = 0
-steady_new aborted k t = 0
-steady_new new k t = jobs k t
+steady_new Completed k t = 0
+steady_new Aborted k t = 0
+steady_new New k t = jobs k t
 
 abbrev pub at_phase : Kind → Task → ℕ → ℕ → ℕ
-at_phase completed k x t = jobs k (min t x)
-at_phase aborted k x t = cut k (min t x)
-at_phase new k x t = jobs k (t - x - k.offset)
+at_phase Completed k x t = jobs k (min t x)
+at_phase Aborted k x t = cut k (min t x)
+at_phase New k x t = jobs k (t - x - k.offset)
 
 abbrev pub from_request : Kind → Task → ℕ → ℕ
-from_request completed k t = k.execution
-from_request aborted k t = 0
-from_request new k t = jobs k (t - k.offset)
+from_request Completed k t = k.execution
+from_request Aborted k t = 0
+from_request New k t = jobs k (t - k.offset)
 
 abbrev pub demand_old : (n : ℕ) → (ℕ → Task) → ℕ → ℕ → ℕ
 demand_old n tk i t = (tk i).execution + over_above n tk i (λ j. steady_old (kind_of (tk j)) (tk j) t)
@@ -108,7 +110,7 @@ same_terms i f g xs h =
 module _ (olds news : List Task) (old-legal : Legal 0 olds) (new-legal : Legal 1 news) where
   -- terms by kind are one term for the old tasks and one for the new
   by_lists : (i : ℕ) (h f : Kind → Task → ℕ) (g : Task → ℕ)
-      → ((x : Task) → h completed x ≡ f completed x) → ((x : Task) → h aborted x ≡ f aborted x) → ((x : Task) → h new x ≡ g x)
+      → ((x : Task) → h Completed x ≡ f Completed x) → ((x : Task) → h Aborted x ≡ f Aborted x) → ((x : Task) → h New x ≡ g x)
       → over_above (count (olds ++ news)) (task (olds ++ news)) i (λ j. h (kind_of (task (olds ++ news) j)) (task (olds ++ news) j))
       ≡ sum_above (task (olds ++ news) i) (λ x. f (kind_of x) x) olds + sum_above (task (olds ++ news) i) g news
   unfolding over_above sum_above

@@ -2,37 +2,36 @@
 use Prim.Native.Nat.{ℕ, ◌+◌, ◌-◌, ◌≤◌, ◌<◌, max}
 use mathlib.Core.Path.{◌≡◌, refl, ap}
 use mathlib.Core.List.{List, ◌++◌}
-use mathlib.Core.Option.{Option, none, some}
 use native.Mathlib.Nat.{le_refl}
 use native.Mathlib.Decide.{dec_le}
 use native.Mathlib.Omega.{arith}
+use Rattle.std.specs.Prelude.{Option, None, Some, Result, Ok, Err}
 use Rattle.base.specs.Search.{window_of}
 use Rattle.base.proofs.Search.{Window, window_found}
 use Rattle.block.specs.declared.Task.{Task}
 use Rattle.block.specs.Legal.{Legal}
 use Rattle.window.specs.declared.Worst.{Worst}
-use Rattle.window.specs.declared.Swept.{Swept}
-use Rattle.window.specs.declared.Swept.TheVariants.{Over, LateAt}
-use Rattle.window.specs.Order.{Kind, completed, aborted, new, kind_of}
+use Rattle.block.specs.declared.Kind.{Kind}
+use Rattle.block.specs.declared.Kind.TheVariants.{Completed, Aborted, New}
+use Rattle.window.specs.Order.{kind_of}
 use Rattle.window.specs.Demand.{steady_demand, phase_demand, request_demand}
 use Rattle.window.specs.Worst.{sweep}
 use Rattle.row.specs.declared.Row.{Row}
-use Rattle.row.specs.declared.Judged.TheVariants.{Timely, Late}
-use Rattle.row.specs.Row.{or_zero, steady_window, phase_window, request_window, completed_row, aborted_row, new_row, row_by, row_of}
+use Rattle.row.specs.Row.{Judged, or_zero, steady_window, phase_window, request_window, completed_row, aborted_row, new_row, row_by, row_of}
 use Rattle.run.specs.Promise.{count, task}
 use Rattle.run.proofs.Tasks.{Sound, sound}
 use Rattle.run.proofs.Analysis.Demands.{demand_old, demand_new, demand_phase, demand_request, steady_old_lem, steady_new_lem, at_phase_lem, from_request_lem}
 use Rattle.window.proofs.Sweep.{IsWorst, sweep_is}
 use Rattle.run.proofs.Analysis.Windows.{Closes, CompletedWindows, AbortedWindow, NewWindows, Windows, Least}
 
-same_first : {r r' : Row} → Timely r ≡ Timely r' → r.first ≡ r'.first
+same_first : {r r' : Row} → ◌≡◌ {A = Judged} (Ok r) (Ok r') → r.first ≡ r'.first
 same_first {r} {r'} e = let z : r ≡ r' = cc in ap (λ (x : Row). x.first) z
 
-not_late : {d : ℕ} {r : Row} → Late d ≡ Timely r → ⊥
+not_late : {d : ℕ} {r : Row} → ◌≡◌ {A = Judged} (Err d) (Ok r) → ⊥
 not_late e = let z : ◌≡◌ {A = ℕ} 0 1 = cc in omega arith
 
 -- a demand that is the same at every t closes with it
-closing : (f g : ℕ → ℕ) (limit t : ℕ) → ((u : ℕ) → f u ≡ g u) → window_of f limit ≡ some t → Closes g 0 t
+closing : (f g : ℕ → ℕ) (limit t : ℕ) → ((u : ℕ) → f u ≡ g u) → window_of f limit ≡ Some t → Closes g 0 t
 closing f g limit t e h = let w = window_found f limit t h in record { some = w.first; closed = omega (arith, w.closes, e t) }
 
 module _ (olds news : List Task) (old-legal : Legal 0 olds) (new-legal : Legal 1 news) (i : ℕ) (l : i < count (olds ++ news)) where
@@ -47,11 +46,11 @@ module _ (olds news : List Task) (old-legal : Legal 0 olds) (new-legal : Legal 1
 
   -- ---- completed
 
-  module _ (s : Worst) (over : sweep (phase_window olds news (tk i)) (tk i).deadline ≡ Over s) where
+  module _ (s : Worst) (over : sweep (phase_window olds news (tk i)) (tk i).deadline ≡ Ok s) where
     w : IsWorst (phase_window olds news (tk i)) (tk i).deadline s
     w = rw over at (sweep_is (phase_demand olds news (tk i)) (tk i).deadline (tk i).deadline)
 
-    at : (x t : ℕ) → phase_window olds news (tk i) x ≡ some t → Window (phase_demand olds news (tk i) x) (tk i).deadline t
+    at : (x t : ℕ) → phase_window olds news (tk i) x ≡ Some t → Window (phase_demand olds news (tk i) x) (tk i).deadline t
     at x t e = window_found (phase_demand olds news (tk i) x) (tk i).deadline t e
 
     -- there is a first phase
@@ -82,17 +81,17 @@ module _ (olds news : List Task) (old-legal : Legal 0 olds) (new-legal : Legal 1
 
   -- ---- by kind, from the row
 
-  windows_by : (k : Kind) (r : Row) → row_by k olds news (tk i) ≡ Timely r → Windows k n tk 0 i r.first
-  windows_by completed r e = go (sweep (phase_window olds news (tk i)) (tk i).deadline) refl e
+  windows_by : (k : Kind) (r : Row) → row_by k olds news (tk i) ≡ Ok r → Windows k n tk 0 i r.first
+  windows_by Completed r e = go (sweep (phase_window olds news (tk i)) (tk i).deadline) refl e
     where
-      go : (a : Swept) → sweep (phase_window olds news (tk i)) (tk i).deadline ≡ a → completed_row a (steady_window olds (tk i)) ≡ Timely r
+      go : (a : Result Worst ℕ) → sweep (phase_window olds news (tk i)) (tk i).deadline ≡ a → completed_row a (steady_window olds (tk i)) ≡ Ok r
           → CompletedWindows n tk 0 i r.first
-      go (Over s) h f = rw (same_first f) at (completed_windows s h)
-      go (LateAt x) h f = absurd (not_late f)
-  windows_by aborted r e = go (steady_window olds (tk i)) refl e
+      go (Ok s) h f = rw (same_first f) at (completed_windows s h)
+      go (Err x) h f = absurd (not_late f)
+  windows_by Aborted r e = go (steady_window olds (tk i)) refl e
     where
-      go : (a : Option ℕ) → steady_window olds (tk i) ≡ a → aborted_row a ≡ Timely r → AbortedWindow n tk 0 i r.first
-      go (some t) h f =
+      go : (a : Option ℕ) → steady_window olds (tk i) ≡ a → aborted_row a ≡ Ok r → AbortedWindow n tk 0 i r.first
+      go (Some t) h f =
           let v : AbortedWindow n tk 0 i t = record {
             window = t;
             closing = closing (steady_demand olds (tk i)) (demand_old n tk i) (tk i).deadline t (λ u. steady_old_lem olds news old-legal new-legal i u) h;
@@ -100,11 +99,11 @@ module _ (olds news : List Task) (old-legal : Legal 0 olds) (new-legal : Legal 1
             timely = (window_found (steady_demand olds (tk i)) (tk i).deadline t h).within;
           } in
           rw (same_first f) at v
-      go none h f = absurd (not_late f)
-  windows_by new r e = go (steady_window news (tk i)) (request_window olds news (tk i)) refl refl e
+      go None h f = absurd (not_late f)
+  windows_by New r e = go (steady_window news (tk i)) (request_window olds news (tk i)) refl refl e
     where
-      go : (a b : Option ℕ) → steady_window news (tk i) ≡ a → request_window olds news (tk i) ≡ b → new_row (tk i) a b ≡ Timely r → NewWindows n tk 0 i r.first
-      go (some t) (some u) h g f =
+      go : (a b : Option ℕ) → steady_window news (tk i) ≡ a → request_window olds news (tk i) ≡ b → new_row (tk i) a b ≡ Ok r → NewWindows n tk 0 i r.first
+      go (Some t) (Some u) h g f =
           let v : NewWindows n tk 0 i (max t (u - (tk i).offset)) = record {
             steady = t;
             onward = u;
@@ -119,19 +118,19 @@ module _ (olds news : List Task) (old-legal : Legal 0 olds) (new-legal : Legal 1
             );
           } in
           rw (same_first f) at v
-      go none b h g f = absurd (not_late f)
-      go (some t) none h g f = absurd (not_late f)
+      go None b h g f = absurd (not_late f)
+      go (Some t) None h g f = absurd (not_late f)
 
-  pub row_windows : (r : Row) → row_of olds news (task (olds ++ news) i) ≡ Timely r
+  pub row_windows : (r : Row) → row_of olds news (task (olds ++ news) i) ≡ Ok r
       → Windows (kind_of (task (olds ++ news) i)) (count (olds ++ news)) (task (olds ++ news)) 0 i r.first
   unfolding row_of
   row_windows r e = windows_by (kind_of (tk i)) r e
 
-  pub row_least : (r : Row) → kind_of (task (olds ++ news) i) ≡ completed → row_of olds news (task (olds ++ news) i) ≡ Timely r
+  pub row_least : (r : Row) → kind_of (task (olds ++ news) i) ≡ Completed → row_of olds news (task (olds ++ news) i) ≡ Ok r
       → Least (count (olds ++ news)) (task (olds ++ news)) i r.first
   unfolding row_of
   row_least r k e = go (sweep (phase_window olds news (tk i)) (tk i).deadline) refl (rw k at e)
     where
-      go : (a : Swept) → sweep (phase_window olds news (tk i)) (tk i).deadline ≡ a → completed_row a (steady_window olds (tk i)) ≡ Timely r → Least n tk i r.first
-      go (Over s) h f = rw (same_first f) at (completed_least s h)
-      go (LateAt x) h f = absurd (not_late f)
+      go : (a : Result Worst ℕ) → sweep (phase_window olds news (tk i)) (tk i).deadline ≡ a → completed_row a (steady_window olds (tk i)) ≡ Ok r → Least n tk i r.first
+      go (Ok s) h f = rw (same_first f) at (completed_least s h)
+      go (Err x) h f = absurd (not_late f)

@@ -1,7 +1,8 @@
 -- The windows that bound a task's jobs, by kind, and the least one. A window need only close; K ticks of it may be lost.
 use Prim.Native.Nat.{ℕ, ◌+◌, ◌≤◌, ◌<◌}
 use Rattle.block.specs.declared.Task.{Task}
-use Rattle.window.specs.Order.{Kind, completed, aborted, new}
+use Rattle.block.specs.declared.Kind.{Kind}
+use Rattle.block.specs.declared.Kind.TheVariants.{Completed, Aborted, New}
 use Rattle.run.proofs.Analysis.Demands.{demand_old, demand_new, demand_phase, demand_request}
 
 -- the demand at t, with K ticks lost, is at most t
@@ -34,9 +35,9 @@ pub record NewWindows (n : ℕ) (tk : ℕ → Task) (K i bound : ℕ) : Type 0 w
   pub timely : bound ≤ (tk i).deadline
 
 abbrev pub Windows : Kind → (n : ℕ) → (ℕ → Task) → ℕ → ℕ → ℕ → Type 0
-Windows completed n tk K i bound = CompletedWindows n tk K i bound
-Windows aborted n tk K i bound = AbortedWindow n tk K i bound
-Windows new n tk K i bound = NewWindows n tk K i bound
+Windows Completed n tk K i bound = CompletedWindows n tk K i bound
+Windows Aborted n tk K i bound = AbortedWindow n tk K i bound
+Windows New n tk K i bound = NewWindows n tk K i bound
 
 -- the number is the least window at a phase
 pub record Least (n : ℕ) (tk : ℕ → Task) (i number : ℕ) : Type 0 where

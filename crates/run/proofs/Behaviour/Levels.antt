@@ -12,16 +12,18 @@ use Rattle.base.specs.Sums.{sum}
 use Rattle.base.proofs.Sums.{sum_le, sum_eq, sum_zero, sum_split, sum_pos, sum_add, sum_ge}
 use Rattle.base.proofs.Search.{find_zero, last_zero}
 use Rattle.block.specs.declared.Task.{Task}
-use Rattle.window.specs.Order.{Kind, completed, aborted, new, kind_of, rank}
+use Rattle.block.specs.declared.Kind.{Kind}
+use Rattle.block.specs.declared.Kind.TheVariants.{Completed, Aborted, New}
+use Rattle.window.specs.Order.{kind_of, rank}
 use Rattle.run.specs.Run.{Slot, idle, job, Run, Job, service, Ended, Present, Pending, AtOrAbove, Preemptive}
 use Rattle.run.proofs.Picks.{pick, pick_zero, pick_below, pick_pos}
 use Rattle.run.proofs.Behaviour.Accounts.{is_chosen, served, chosen, lost, left, left_over, OnlyPending, service_suc, service_le, service_rises, stays, chosen_served, fill}
 
 -- what of a task is pending at the start of tick t, before its releases: what is left, unless it vanished; and of all chosen tasks
 abbrev pub keep : Kind → ℕ → ℕ → ℕ → ℕ
-keep completed q t x = x
-keep aborted q t x = pick (ltb t q) x
-keep new q t x = x
+keep Completed q t x = x
+keep Aborted q t x = pick (ltb t q) x
+keep New q t x = x
 
 unfoldable pub backlog : (ℕ → Task) → Run → ℕ → ℕ → ℕ
 backlog tk R i t = keep (kind_of (tk i)) R.request t (left_over R i t)
@@ -48,35 +50,35 @@ Budget n tk R B =
 -- ---- kinds
 
 -- only aborted jobs vanish
-pub others_present : (k : Kind) (q t : ℕ) → (k ≡ aborted → ⊥) → Present k q t
-others_present completed q t h = tt
-others_present aborted q t h = absurd (h refl)
-others_present new q t h = tt
+pub others_present : (k : Kind) (q t : ℕ) → (k ≡ Aborted → ⊥) → Present k q t
+others_present Completed q t h = tt
+others_present Aborted q t h = absurd (h refl)
+others_present New q t h = tt
 
 pub keep_le : (k : Kind) (q t x : ℕ) → keep k q t x ≤ x
-keep_le completed q t x = omega arith
-keep_le aborted q t x = pick_below (ltb t q) x x (le_refl x)
-keep_le new q t x = omega arith
+keep_le Completed q t x = omega arith
+keep_le Aborted q t x = pick_below (ltb t q) x x (le_refl x)
+keep_le New q t x = omega arith
 
 pub keep_all : (k : Kind) (q t x : ℕ) → Present k q t → keep k q t x ≡ x
-keep_all completed q t x h = refl
-keep_all aborted q t x h = rw (lt-ltb t q (omega arith))
-keep_all new q t x h = refl
+keep_all Completed q t x h = refl
+keep_all Aborted q t x h = rw (lt-ltb t q (omega arith))
+keep_all New q t x h = refl
 
 pub present_early : (k : Kind) (q t : ℕ) → t < q → Present k q t
-present_early completed q t h = tt
-present_early aborted q t h = omega arith
-present_early new q t h = tt
+present_early Completed q t h = tt
+present_early Aborted q t h = omega arith
+present_early New q t h = tt
 
 pub present_before : (k : Kind) (q t t' : ℕ) → t' ≤ t → Present k q t → Present k q t'
-present_before completed q t t' l h = tt
-present_before aborted q t t' l h = omega arith
-present_before new q t t' l h = tt
+present_before Completed q t t' l h = tt
+present_before Aborted q t t' l h = omega arith
+present_before New q t t' l h = tt
 
 pub keep_pos : (k : Kind) (q t x : ℕ) → 0 < keep k q t x → Present k q t × (0 < x)
-keep_pos completed q t x h = (tt, h)
-keep_pos aborted q t x h = let p = pick_pos (ltb t q) x h in (omega (arith, ltb-true t q p.0), p.1)
-keep_pos new q t x h = (tt, h)
+keep_pos Completed q t x h = (tt, h)
+keep_pos Aborted q t x h = let p = pick_pos (ltb t q) x h in (omega (arith, ltb-true t q p.0), p.1)
+keep_pos New q t x h = (tt, h)
 
 module _ (n : ℕ) (tk : ℕ → Task) (R : Run) (S : OnlyPending n tk R) where
   -- what is pending after a tick, of what was released before or at it, was pending in it

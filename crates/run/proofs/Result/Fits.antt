@@ -10,7 +10,9 @@ use Rattle.base.specs.Sums.{sum}
 use Rattle.base.proofs.Sums.{sum_eq, sum_zero, sum_split}
 use Rattle.base.proofs.Numbers.{jobs_none, jobs_own}
 use Rattle.block.specs.declared.Task.{Task}
-use Rattle.window.specs.Order.{Kind, completed, aborted, new, kind_of}
+use Rattle.block.specs.declared.Kind.{Kind}
+use Rattle.block.specs.declared.Kind.TheVariants.{Completed, Aborted, New}
+use Rattle.window.specs.Order.{kind_of}
 use Rattle.run.specs.Run.{Slot, idle, job, Run, Ended, Present, Releases}
 use Rattle.run.proofs.Tasks.{Sound, by_kind}
 use Rattle.run.proofs.Analysis.Counted.{one_release}
@@ -21,22 +23,22 @@ use Rattle.run.proofs.Result.Shares.{work_split, left_apart, since, whole_in, no
 
 -- a window no longer than the period holds one job of a task
 old_own : (k : Kind) (a : Task) (t : ℕ) → 0 < a.period → t ≤ a.period → steady_old k a t ≤ a.execution
-old_own completed a t p h = jobs_own a.period a.execution t p h
-old_own aborted a t p h = jobs_own a.period a.execution t p h
-old_own new a t p h = omega arith
+old_own Completed a t p h = jobs_own a.period a.execution t p h
+old_own Aborted a t p h = jobs_own a.period a.execution t p h
+old_own New a t p h = omega arith
 
 new_own : (k : Kind) (a : Task) (t : ℕ) → 0 < a.period → t ≤ a.period → steady_new k a t ≤ a.execution
-new_own completed a t p h = omega arith
-new_own aborted a t p h = omega arith
-new_own new a t p h = jobs_own a.period a.execution t p h
+new_own Completed a t p h = omega arith
+new_own Aborted a t p h = omega arith
+new_own New a t p h = jobs_own a.period a.execution t p h
 
 module _ (n : ℕ) (tk : ℕ → Task) (R : Run) (G : Sound n tk) (L : Releases n tk R) (S : OnlyPending n tk R) where
   -- an aborted task is not served from the request on, and has nothing pending
-  gone : (i t : ℕ) → kind_of (tk i) ≡ aborted → R.request ≤ t → backlog tk R i t ≡ 0
+  gone : (i t : ℕ) → kind_of (tk i) ≡ Aborted → R.request ≤ t → backlog tk R i t ≡ 0
   unfolding backlog
   gone i t e h = rw (e, le-ltb t R.request (omega arith))
 
-  not_served : (i u : ℕ) → kind_of (tk i) ≡ aborted → R.request ≤ u → is_task (R.serve u) i ≡ 0
+  not_served : (i u : ℕ) → kind_of (tk i) ≡ Aborted → R.request ≤ u → is_task (R.serve u) i ≡ 0
   not_served i u e h = go (R.serve u) refl
     where
       go : (σ : Slot) → R.serve u ≡ σ → is_task σ i ≡ 0
@@ -44,12 +46,12 @@ module _ (n : ℕ) (tk : ℕ → Task) (R : Run) (G : Sound n tk) (L : Releases 
       go (job j s) f =
           elim (ℕ_discrete j i) [
             | yes z ↦
-                let k : Present aborted R.request u = rw (z, e) at (is_pending n tk R S u j s f).1.present in
+                let k : Present Aborted R.request u = rw (z, e) at (is_pending n tk R S u j s f).1.present in
                 absurd (omega arith)
             | no d ↦ rw (ne_eqb j i d)
           ]
 
-  stopped : (i a t : ℕ) → kind_of (tk i) ≡ aborted → R.request ≤ a → served R i (a + t) ≡ served R i a
+  stopped : (i a t : ℕ) → kind_of (tk i) ≡ Aborted → R.request ≤ a → served R i (a + t) ≡ served R i a
   unfolding served
   stopped i a t e h =
       omega (
@@ -96,7 +98,7 @@ module _ (n : ℕ) (tk : ℕ → Task) (R : Run) (G : Sound n tk) (L : Releases 
           omega (arith, rw (w, jobs_none (tk j).period (tk j).execution (G.period j m)) at v, pend_le j (s + t)))
 
   -- past the request
-  pub past : (i s x t K : ℕ) → i < n → kind_of (tk i) ≡ completed → level n tk R (in_level tk i) s ≡ 0 → R.request ≡ s + x → 0 < x → x < t → t ≤ (tk i).period → demand_phase n tk i x t + K ≤ t → Fits i s t K
+  pub past : (i s x t K : ℕ) → i < n → kind_of (tk i) ≡ Completed → level n tk R (in_level tk i) s ≡ 0 → R.request ≡ s + x → 0 < x → x < t → t ≤ (tk i).period → demand_phase n tk i x t + K ≤ t → Fits i s t K
   past i s x t K l ki z q p h d c =
       account i s t K (λ j. at_phase (kind_of (tk j)) (tk j) x t) l at_j (rw ki (jobs_own (tk i).period (tk i).execution (min t x) (G.period i l) (omega arith))) c
     where
@@ -156,8 +158,8 @@ module _ (n : ℕ) (tk : ℕ → Task) (R : Run) (G : Sound n tk) (L : Releases 
       ]
 
   -- from the request on, whatever is pending
-  pub onward : (i t K : ℕ) → i < n → kind_of (tk i) ≡ new
-      → ((j r : ℕ) → j < n → kind_of (tk j) ≡ completed → Ended R j r (r + (tk j).period))
+  pub onward : (i t K : ℕ) → i < n → kind_of (tk i) ≡ New
+      → ((j r : ℕ) → j < n → kind_of (tk j) ≡ Completed → Ended R j r (r + (tk j).period))
       → t ≤ (tk i).offset + (tk i).period → demand_request n tk i t + K ≤ t → Fits i R.request t K
   unfolding work
   onward i t K l ki ends d c =

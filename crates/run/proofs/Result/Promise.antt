@@ -6,7 +6,8 @@ use native.Mathlib.Omega.{arith}
 use Rattle.block.specs.declared.Task.{Task}
 use Rattle.block.specs.Legal.{Legal}
 use Rattle.block.proofs.Reading.{reading_legal}
-use Rattle.window.specs.Order.{completed, kind_of}
+use Rattle.block.specs.declared.Kind.TheVariants.{Completed}
+use Rattle.window.specs.Order.{kind_of}
 use Rattle.pair.specs.Analysis.{analyse_of}
 use Rattle.pair.specs.Accepted.{Accepted}
 use Rattle.pair.proofs.Kept.{accepted}
@@ -38,7 +39,7 @@ module _ (old_block new_block report : List ℕ) (a : Accepted old_block new_blo
   first_half : AllEnd n tk number
   first_half R is = within n tk G (λ i. 0) number windows R is.releases is.schedule.pending (no_loss n tk R is.schedule)
 
-  second_half : (i : ℕ) → i < n → kind_of (tk i) ≡ completed → NoAbortedAbove n tk i → Reached n tk i (number i)
+  second_half : (i : ℕ) → i < n → kind_of (tk i) ≡ Completed → NoAbortedAbove n tk i → Reached n tk i (number i)
   second_half i l k clear =
       let r = first_numbers old_block new_block report (analyse_of old_block new_block report).report a i l in
       let v = row_least a.olds a.news old-legal new-legal i l r.0 k r.1 in

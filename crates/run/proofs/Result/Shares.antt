@@ -8,7 +8,8 @@ use native.Mathlib.Omega.{arith}
 use Rattle.base.specs.Sums.{sum}
 use Rattle.base.proofs.Sums.{sum_le, sum_eq, sum_split, sum_ticks, sum_cut, sum_late}
 use Rattle.block.specs.declared.Task.{Task}
-use Rattle.window.specs.Order.{completed, new, kind_of}
+use Rattle.block.specs.declared.Kind.TheVariants.{Completed, New}
+use Rattle.window.specs.Order.{kind_of}
 use Rattle.window.specs.Demand.{jobs, cut}
 use Rattle.run.specs.Run.{Run, runs, service, MayCome, Releases}
 use Rattle.run.proofs.Tasks.{Sound}
@@ -38,26 +39,26 @@ module _ (n : ℕ) (tk : ℕ → Task) (R : Run) (G : Sound n tk) (L : Releases 
       omega (arith, since i a t z, jobs_most (tk i).period (tk i).execution (R.need i) (G.period i l) (need_apart i l) (λ r. omega (arith, L.fits i r l)) t a)
 
   -- nothing of a completed task from the request on, nothing of a new one before its offset
-  pub none_after : (i : ℕ) → kind_of (tk i) ≡ completed → i < n → (r : ℕ) → R.request ≤ r → R.need i r ≡ 0
+  pub none_after : (i : ℕ) → kind_of (tk i) ≡ Completed → i < n → (r : ℕ) → R.request ≤ r → R.need i r ≡ 0
   none_after i e l r h =
       elim (eq-zero-or-pos (R.need i r)) [
         | inl z ↦ z
         | inr p ↦
-            let m : MayCome completed R.request (tk i).offset r = rw e at (L.comes i r l p) in
+            let m : MayCome Completed R.request (tk i).offset r = rw e at (L.comes i r l p) in
             absurd (omega arith)
       ]
 
-  pub none_before : (i : ℕ) → kind_of (tk i) ≡ new → i < n → (r : ℕ) → r < R.request + (tk i).offset → R.need i r ≡ 0
+  pub none_before : (i : ℕ) → kind_of (tk i) ≡ New → i < n → (r : ℕ) → r < R.request + (tk i).offset → R.need i r ≡ 0
   none_before i e l r h =
       elim (eq-zero-or-pos (R.need i r)) [
         | inl z ↦ z
         | inr p ↦
-            let m : MayCome new R.request (tk i).offset r = rw e at (L.comes i r l p) in
+            let m : MayCome New R.request (tk i).offset r = rw e at (L.comes i r l p) in
             absurd (omega arith)
       ]
 
   -- of a completed task
-  pub completed_in : (i a x t : ℕ) → i < n → kind_of (tk i) ≡ completed → R.request ≡ a + x → left_over R i a ≡ 0
+  pub completed_in : (i a x t : ℕ) → i < n → kind_of (tk i) ≡ Completed → R.request ≡ a + x → left_over R i a ≡ 0
       → served R i (a + t) + left_over R i (a + t) ≤ served R i a + jobs (tk i) (min t x)
   completed_in i a x t l e q z =
       omega (
@@ -68,7 +69,7 @@ module _ (n : ℕ) (tk : ℕ → Task) (R : Run) (G : Sound n tk) (L : Releases 
       )
 
   -- of a new task
-  pub new_in : (i a x t : ℕ) → i < n → kind_of (tk i) ≡ new → R.request ≡ a + x → left_over R i a ≡ 0
+  pub new_in : (i a x t : ℕ) → i < n → kind_of (tk i) ≡ New → R.request ≡ a + x → left_over R i a ≡ 0
       → served R i (a + t) + left_over R i (a + t) ≤ served R i a + jobs (tk i) (t - x - (tk i).offset)
   new_in i a x t l e q z =
       let y : t - (x + (tk i).offset) ≡ t - x - (tk i).offset = omega arith in

@@ -7,7 +7,9 @@ use native.Mathlib.Nat.{le_refl, eq-zero-or-pos}
 use native.Mathlib.Decide.{dec_lt, dec_le}
 use native.Mathlib.Omega.{arith}
 use Rattle.block.specs.declared.Task.{Task}
-use Rattle.window.specs.Order.{Kind, completed, aborted, new, kind_of}
+use Rattle.block.specs.declared.Kind.{Kind}
+use Rattle.block.specs.declared.Kind.TheVariants.{Completed, Aborted, New}
+use Rattle.window.specs.Order.{kind_of}
 use Rattle.window.specs.Demand.{jobs, cut}
 use Rattle.run.specs.Run.{Run, Job, Ended, MayCome, Releases}
 use Rattle.run.specs.Promise.{NotCut}
@@ -35,11 +37,11 @@ module _ (n : ℕ) (tk : ℕ → Task) (G : Sound n tk) (B bound : ℕ → ℕ) 
       pub phase : R.request ≡ s + x
       pub ends : Ended R i r (s + window (min x (tk i).deadline))
 
-    pub in_window : (i r : ℕ) (l : i < n) (e : kind_of (tk i) ≡ completed) → Job R i r → InWindow i r (windows_of completed i l e).window
+    pub in_window : (i r : ℕ) (l : i < n) (e : kind_of (tk i) ≡ Completed) → Job R i r → InWindow i r (windows_of Completed i l e).window
     in_window i r l e p = record { s = s; x = x; starts = st.1.early; some = px; phase = q_is; ends = finish }
       where
         w : CompletedWindows n tk (B i) i (bound i)
-        w = windows_of completed i l e
+        w = windows_of Completed i l e
 
         st : (s : ℕ) × LastQuiet n tk R i r s
         st = start n tk R S i r
@@ -51,7 +53,7 @@ module _ (n : ℕ) (tk : ℕ → Task) (G : Sound n tk) (B bound : ℕ → ℕ) 
         x = R.request - s
 
         early : r < R.request
-        early = let m : MayCome completed R.request (tk i).offset r = rw e at (L.comes i r l p) in omega arith
+        early = let m : MayCome Completed R.request (tk i).offset r = rw e at (L.comes i r l p) in omega arith
 
         px : 0 < x
         px = omega (arith, early, st.1.early)
@@ -76,13 +78,13 @@ module _ (n : ℕ) (tk : ℕ → Task) (G : Sound n tk) (B bound : ℕ → ℕ) 
 
         -- a phase past the deadline has the demand of the phase at the deadline
         same : (k : Kind) (a : Task) → (tk i).deadline < x → at_phase k a x t ≤ at_phase k a y t
-        same completed a m =
+        same Completed a m =
             let z : min t x ≡ min t y = omega (arith, in_time) in
             rw z (le_refl (jobs a (min t y)))
-        same aborted a m =
+        same Aborted a m =
             let z : min t x ≡ min t y = omega (arith, in_time) in
             rw z (le_refl (cut a (min t y)))
-        same new a m =
+        same New a m =
             let z : t - x - a.offset ≡ t - y - a.offset = omega (arith, in_time) in
             rw z (le_refl (jobs a (t - y - a.offset)))
 
@@ -114,32 +116,32 @@ module _ (n : ℕ) (tk : ℕ → Task) (G : Sound n tk) (B bound : ℕ → ℕ) 
                   (past n tk R G L S i s x t (B i) l e st.1.quiet q_is px (omega arith) (omega (arith, in_time, G.in_period i l)) at_x)
             ]
 
-    completed_ends : (i r : ℕ) → i < n → kind_of (tk i) ≡ completed → Job R i r → Ended R i r (r + bound i)
+    completed_ends : (i r : ℕ) → i < n → kind_of (tk i) ≡ Completed → Job R i r → Ended R i r (r + bound i)
     completed_ends i r l e p =
-        let w = windows_of completed i l e in
+        let w = windows_of Completed i l e in
         let v = in_window i r l e p in
         let y : ℕ = min v.x (tk i).deadline in
         stays n tk R S i r (v.s + w.window y) (r + bound i)
         (omega (arith, v.starts, w.most y (omega (arith, v.some, G.execution i l, G.in_deadline i l)) (omega arith))) v.ends
 
     -- so within its period, a job or none
-    in_period : (j r : ℕ) → j < n → kind_of (tk j) ≡ completed → Ended R j r (r + (tk j).period)
+    in_period : (j r : ℕ) → j < n → kind_of (tk j) ≡ Completed → Ended R j r (r + (tk j).period)
     in_period j r l e =
         elim (eq-zero-or-pos (R.need j r)) [
           | inl z ↦ omega (arith, service_le n tk R S j r (r + (tk j).period))
           | inr p ↦
-              stays n tk R S j r (r + bound j) (r + (tk j).period) (omega (arith, (windows_of completed j l e).timely, G.in_period j l)) (completed_ends j r l e p)
+              stays n tk R S j r (r + bound j) (r + (tk j).period) (omega (arith, (windows_of Completed j l e).timely, G.in_period j l)) (completed_ends j r l e p)
         ]
 
     -- ---- aborted: a job that had ended by the request
 
-    aborted_ends : (i r : ℕ) → i < n → kind_of (tk i) ≡ aborted → Job R i r → Ended R i r R.request → Ended R i r (r + bound i)
+    aborted_ends : (i r : ℕ) → i < n → kind_of (tk i) ≡ Aborted → Job R i r → Ended R i r R.request → Ended R i r (r + bound i)
     aborted_ends i r l e p whole =
-        let w = windows_of aborted i l e in
+        let w = windows_of Aborted i l e in
         let st = start n tk R S i r in
         let s : ℕ = st.0 in
         let t : ℕ = w.window in
-        let early : MayCome aborted R.request (tk i).offset r = rw e at (L.comes i r l p) in
+        let early : MayCome Aborted R.request (tk i).offset r = rw e at (L.comes i r l p) in
         elim (dec_lt (s + t) R.request) [
           | yes m ↦
               stays n tk R S i r (s + t) (r + bound i) (omega (arith, st.1.early, w.most))
@@ -150,12 +152,12 @@ module _ (n : ℕ) (tk : ℕ → Task) (G : Sound n tk) (B bound : ℕ → ℕ) 
 
     -- ---- new
 
-    new_ends : (i r : ℕ) → i < n → kind_of (tk i) ≡ new → Job R i r → Ended R i r (r + bound i)
+    new_ends : (i r : ℕ) → i < n → kind_of (tk i) ≡ New → Job R i r → Ended R i r (r + bound i)
     new_ends i r l e p =
-        let w = windows_of new i l e in
+        let w = windows_of New i l e in
         let st = start n tk R S i r in
         let s : ℕ = st.0 in
-        let late : MayCome new R.request (tk i).offset r = rw e at (L.comes i r l p) in
+        let late : MayCome New R.request (tk i).offset r = rw e at (L.comes i r l p) in
         elim (dec_le R.request s) [
           | yes m ↦
               stays n tk R S i r (s + w.steady) (r + bound i) (omega (arith, st.1.early, w.steady_most))

@@ -1,28 +1,23 @@
 -- What a turn reads stands behind what came before, and the reader gave both.
-use Rattle.std.proofs.Common.{◌≡◌, ℕ, ◌+◌, ◌-◌, ◌≤◌, List, ◌++◌, rules, arith, length, take, slice_range, sym, ap, ◌∙◌, subst, le_refl, drop_at, length-take-le}
-use Rattle.std.proofs.lemmas.Slice.{take-put_mid_below}
+use Rattle.std.proofs.Common.{◌≡◌, ℕ, ◌+◌, ◌-◌, ◌≤◌, List, ◌++◌, rules, length, length-take-le, take, refl, subst}
+use Rattle.std.proofs.Math.Seq.{take-append-add, take-append-le}
 use Rattle.std.specs.Io.KnownBytes.{Consumes}
 use Rattle.std.proofs.KnownBytes.{Consumes-trans}
 use borrow.Rule.Slice.PartMut.{put_mid, post_of}
-use lib.Seq.{take-add, take-append-le}
 use Rattle.streams.proofs.read_full.Goals as goal
 
-take_split : (a b : ℕ) (old new : List ℕ) → a ≤ b → take a new ≡ take a old → take a old ++ slice_range new a b ≡ take b new
-take_split a b old new h front =
-    let same : a + (b - a) ≡ b = omega arith in
-    ap (λ l. l ++ slice_range new a b) (sym front) ∙ sym (take-add a (b - a) new) ∙ ap (λ n. take n new) same
-
-slice_range-put_mid : (a k n : ℕ) (xs ys : List ℕ) → a ≤ length xs → n ≤ length ys → slice_range (put_mid a k xs ys) a (a + n) ≡ take n ys
-slice_range-put_mid a k n xs ys within fits =
-    let same : (a + n) - a ≡ n = omega arith in
-    let after = post_of a k xs in
-    ap (take ((a + n) - a)) (drop_at (take a xs) (ys ++ after) a (length-take-le a xs within)) ∙ ap (λ m. take m (ys ++ after)) same ∙ take-append-le n ys after fits
+-- the bytes read over a part from a on, behind those before it
+put_behind : (a k n : ℕ) (xs ys : List ℕ) → a ≤ length xs → n ≤ length ys → take a xs ++ take n ys ≡ take (a + n) (put_mid a k xs ys)
+put_behind a k n xs ys within fits =
+    let behind = ys ++ post_of a k xs in
+    rw (← take-append-le n ys (post_of a k xs) fits, ← take-append-add (take a xs) behind n, length-take-le a xs within) refl
 
 pub loop-preserved : goal.loop-preserved
 loop-preserved g c =
-    let from = c.loop.done in
-    let room = length c.loop.buf - from in
-    let within = c.loop.invariant.0 in
-    let part = slice_range-put_mid from room c.in_ok-n.n c.loop.buf c.read.new.buf within c.in_ok-n.ensures.bound.0 in
-    let joined = take_split from (from + c.in_ok-n.n) c.loop.buf (put_mid from room c.loop.buf c.read.new.buf) (omega arith) (take-put_mid_below _ _ _ _ _ (le_refl _) within) in
-    (search rules, search rules, subst (Consumes _ _) (ap (λ l. take from c.loop.buf ++ l) (sym part) ∙ joined) (Consumes-trans _ _ _ _ _ c.loop.invariant.2 c.in_ok-n.ensures.bytes.0))
+    let n = c.in_ok-n.n in
+    let joined = put_behind c.loop.done (length c.loop.buf - c.loop.done) n c.loop.buf c.read.new.buf c.loop.invariant.within c.in_ok-n.ensures.bound.0 in
+    record {
+      within = search rules;
+      turns = search rules;
+      came = subst (Consumes _ _) joined (Consumes-trans _ _ _ _ _ c.loop.invariant.came c.in_ok-n.ensures.bytes.0);
+    }

@@ -5,5 +5,8 @@ use Rattle.streams.proofs.read_full.Given as goal
 
 abbrev pub invariant-loop : goal.invariant-loop
 invariant-loop g l =
-    (l.done ≤ length l.buf) × (l.counter ≤ l.done)
-    × Consumes (g.R.Read.remaining l.initial.from) (g.R.Read.remaining l.from) (take l.done l.buf)
+    record {
+      within : l.done ≤ length l.buf;
+      turns : l.counter ≤ l.done;
+      came : Consumes (g.R.Read.remaining l.initial.from) (g.R.Read.remaining l.from) (take l.done l.buf);
+    }

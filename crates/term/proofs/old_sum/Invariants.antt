@@ -1,10 +1,6 @@
-use Prim.Native.Nat.{◌≤◌, ◌-◌, ◌*◌}
-use mathlib.Core.Path.{◌≡◌}
+use Rattle.std.proofs.Common.{◌≡◌, ◌*◌, ◌≤◌, take}
 use Rattle.term.specs.Terms.{old_sum}
 use Rattle.term.proofs.old_sum.Given as goal
 
-abbrev pub invariant-loop-j : goal.invariant-loop-j
-invariant-loop-j l = (l.j ≤ l.n) × (l.sum ≡ old_sum l.terms l.j l.m) × (l.sum ≤ 34359738368 * l.j)
-
-abbrev pub decreases-loop-j : goal.decreases-loop-j
-decreases-loop-j l = l.n - l.j
+abbrev pub invariant-loop-e : goal.invariant-loop-e
+invariant-loop-e l = (l.sum ≡ old_sum (take l.e-index l.old) l.m) × (l.sum ≤ 34359738368 * l.e-index)

@@ -1,12 +1,9 @@
--- `all_zero` says whether every byte is zero. Invariant: the largest of the first i bytes is at most their sum, and zero only if that is.
-use Rattle.base.specs.Sums.{sum_of}
-use lib.ListN.{length, take}
+-- `all_zero` says whether every byte is zero. Invariant: the largest of the first i bytes is zero exactly if all of them are.
+use Rattle.block.specs.Record.{all_zero}
+use lib.Dec.{eqb}
+use lib.ListN.{take}
 use mathlib.Core.Path.{◌≡◌}
-use Prim.Native.Nat.{◌≤◌, ◌-◌}
 use Rattle.words.proofs.all_zero.Given as goal
 
-abbrev pub invariant-loop-i : goal.invariant-loop-i
-invariant-loop-i l = (l.i ≤ length l.bytes) × (l.most ≤ sum_of (λ b. b) (take l.i l.bytes)) × (l.most ≡ 0 → sum_of (λ b. b) (take l.i l.bytes) ≡ 0)
-
-abbrev pub decreases-loop-i : goal.decreases-loop-i
-decreases-loop-i l = length l.bytes - l.i
+abbrev pub invariant-loop-b : goal.invariant-loop-b
+invariant-loop-b l = eqb l.most 0 ≡ all_zero (take l.b-index l.bytes)

@@ -1,12 +1,8 @@
 -- `check_of` gives the check of a block. Invariant: the sum is that of the first k words, modulo 2^32.
-use Rattle.block.specs.Format.{check_words}
 use Rattle.block.specs.Block.{word_sum}
 use mathlib.Core.Path.{◌≡◌}
-use Prim.Native.Nat.{◌≤◌, ◌%◌, ◌-◌}
+use Prim.Native.Nat.{◌%◌}
 use Rattle.words.proofs.check_of.Given as goal
 
 abbrev pub invariant-loop-k : goal.invariant-loop-k
-invariant-loop-k l = (l.k ≤ check_words) × (l.sum ≡ word_sum l.b l.k % 4294967296)
-
-abbrev pub decreases-loop-k : goal.decreases-loop-k
-decreases-loop-k l = check_words - l.k
+invariant-loop-k l = l.sum ≡ word_sum l.b l.k % 4294967296
