@@ -29,7 +29,7 @@ SWEPT = {
     "row": ["Row"],
     "rows": ["Rows"],
     "pair": ["Analysis"],
-    "lines": ALL,
+    "lines": ["Line", "Put", "Words"],
     "render": ALL,
 }
 # Definitions in them that only the code is about.
@@ -224,7 +224,7 @@ def declared(crates):
         source = f"{TOP}/crates/{crate}/src/lib.rt"
         text = open(source).read() if os.path.exists(source) else ""
         for m in re.finditer(r"^(?:#\[.*\]\n)*(?:pub )?(?:(?:struct|enum) (\w+) \{\n.*?^\}|const (\w+)[^;]*;)\n", text, re.M | re.S):
-            found.setdefault(m.group(1) or m.group(2), re.sub(r"\b\w+::", "", m.group()))
+            found.setdefault(m.group(1) or m.group(2), re.sub(r"\b[a-z]\w*::", "", m.group()))
     return "\n".join(found.values())
 
 

@@ -54,11 +54,7 @@ impl Rolled {
     // What an array of rolled tasks holds where none is rolled out.
     pub const NONE: Rolled = Rolled {
         old: Old {
-            jobs: Jobs {
-                recip: 0,
-                period: 0,
-                execution: 0,
-            },
+            jobs: Jobs::NONE,
             cut: false,
         },
         offset: 0,
@@ -95,7 +91,7 @@ impl Rolled {
     }
 }
 
-// The roll of some tasks, put to the front of the rolls.
+// The roll of some tasks, put to the front of the rolls. `Sound` is said of it alone, as in `left`. By places: of what a loop writes through an iterator the check knows lengths alone.
 pub fn roll(rolls: &mut [Rolled], tasks: &[Task])
     requires { Periodic tasks.now × (length tasks.now ≤ length rolls.old) }
     ensures { (rolls.new ≡ map rolled tasks.now ++ drop (length tasks.now) rolls.old) × Sound (map rolled tasks.now) }
@@ -105,7 +101,8 @@ pub fn roll(rolls: &mut [Rolled], tasks: &[Task])
     }
 }
 
-// The terms of those tasks that are above the rank p, put to the front of the terms, and how many they are.
+// The terms of those tasks that are above the rank p, put to the front of the terms, and how many they are: the contract says
+// what all of the terms hold then.
 pub fn gather<T: Copy, F: Fn(Rolled) -> T>(
     terms: &mut [T],
     rolls: &[Rolled],
@@ -126,7 +123,7 @@ pub fn gather<T: Copy, F: Fn(Rolled) -> T>(
     count
 }
 
-// What all of them leave at the request to a task of rank p.
+// What all of them leave at the request to a task of rank p. They come alone, where `judge` has both rolls in one struct.
 pub fn left(rolls: &[Rolled], p: u64) -> u64
     requires { Sound rolls.now }
     ensures { (result ≡ left_above p rolls.now) × (result ≤ 1966050) }

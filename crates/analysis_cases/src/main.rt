@@ -4,14 +4,14 @@
 
 #![tactic(auto)]
 
-use block::{BLOCK_SIZE, LIST_SIZE, MOST_TASKS};
-use rows::ROW_SIZE;
+use block::{BLOCK_SIZE, LIST_SIZE};
+use rows::{REPORT_ROOM, ROW_SIZE};
 use std::io::Write;
 use std::{array, io};
 use tries::{MOST_NUMBERS, NO_BYTE, number};
 
 // The largest report lent: a number more than any pair's rows need.
-const MOST_ROOM: usize = ROW_SIZE * 2 * MOST_TASKS + 1;
+const MOST_ROOM: usize = REPORT_ROOM + 1;
 
 // What stands in a report before it is lent.
 fn untouched() -> [u32; MOST_ROOM] {
@@ -30,7 +30,7 @@ fn put_field(list: &mut [u32], task: usize, name: u8, x: u32) {
     }
 }
 
-// The fields that a line names from word 4 on, each with its number; `and` goes on to the next task. A line has no more words than bytes.
+// By places, since a name and the next word go together: the fields that a line names from word 4 on, each with its number; `and` goes on to the next task. A line has no more words than bytes.
 fn put_words(list: &mut [u32], line: &[u8]) {
     let mut task: usize = 0;
     for k in 4..line.len() {
@@ -63,6 +63,7 @@ fn tried(line: &[u8], side: u32, block: &[u8; BLOCK_SIZE]) -> [u8; BLOCK_SIZE] {
     bytes
 }
 
+// The lent report and what it held come apart, as in all of these programs: a struct for one call would be no plainer.
 fn tell<W: Write>(
     to: &mut W,
     old: &[u8],
@@ -72,7 +73,7 @@ fn tell<W: Write>(
 ) -> io::Result<()> {
     let a = pair::analyse(old, new, report);
     says::say_outcome(to, a, tries::same_from(report, before, 0))?;
-    // The answer is the one C gets, in numbers.
+    // The answer as C gets it: a code of 0 is done.
     if a.code == 0 {
         says::say_numbers(to, b"", report)?;
     }
@@ -103,6 +104,7 @@ fn try_blocks<W: Write>(
 
 // A list's line leaves its block for the tries behind it. A line that starts with none of the three letters is only printed.
 fn main(rt: HostRuntime) -> io::Result<()> {
+    // in fixed memory of each program
     let mut text = [0; 65536];
     let n = streams::read_full(&mut rt.stdin(), &mut text)?;
     let mut old = [NO_BYTE; BLOCK_SIZE];

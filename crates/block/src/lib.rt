@@ -17,13 +17,14 @@ pub const CHECK_PLACE: usize = 508;
 
 pub const CHECK_WORDS: usize = 127;
 
+// The mark is two bytes apart, as the definitions have it.
 pub const MARK_FIRST: u8 = 0x4D;
 
 pub const MARK_SECOND: u8 = 0x54;
 
 pub const LIST_SIZE: usize = 7;
 
-// What becomes of a task's jobs at the request. A task has it as the number of its record.
+// What becomes of a task's jobs at the request. A task has it as a number, `kind`.
 #[derive(Clone, Copy)]
 pub enum Kind {
     Completed,
@@ -31,7 +32,7 @@ pub enum Kind {
     New,
 }
 
-// A task, as its record says it.
+// A task, as its record says it. The number `kind` may be that of no kind (decision B1).
 #[repr(C)]
 #[derive(Clone, Copy)]
 pub struct Task {
@@ -44,7 +45,7 @@ pub struct Task {
     pub offset: u16,
 }
 
-// The tasks of one mode: the first `count` of `tasks`.
+// The tasks of one mode: the first `count` of `tasks`, an array by value, as document 01 asks.
 #[derive(Clone, Copy)]
 pub struct Table {
     pub tasks: [Task; MOST_TASKS],
@@ -68,7 +69,7 @@ pub enum Code {
     ListLength = 11,
 }
 
-// What every public function answers, in numbers, as C reads it.
+// What each function that C calls answers, in numbers, as C reads it. Sides are numbers too, 0 old and 1 new, since C may pass any other.
 #[repr(C)]
 #[derive(Clone, Copy)]
 pub struct Answer {
@@ -81,10 +82,13 @@ pub struct Answer {
 // What a check says: nothing is wrong, or the answer that refuses.
 pub type Verdict = Result<(), Answer>;
 
+// The side of an answer that means neither, as C reads it.
+pub const NO_SIDE: u32 = 2;
+
 // The answer of what is done, where nothing else is said.
 pub const DONE: Answer = Answer {
     code: Code::Done as u32,
-    side: 2,
+    side: NO_SIDE,
     record: 0,
     detail: 0,
 };
@@ -92,7 +96,7 @@ pub const DONE: Answer = Answer {
 // The refusal of a list or a report that is too short.
 pub const SHORT: Answer = Answer {
     code: Code::Short as u32,
-    side: 2,
+    side: NO_SIDE,
     record: 0,
     detail: 0,
 };

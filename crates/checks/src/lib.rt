@@ -22,14 +22,14 @@ fn check_records(records: Records, side: u32) -> Verdict
     )
 }
 
-// Whether an earlier record bears the number or the priority of record k.
+// Whether an earlier record bears the number or the priority of record k, a place, as in `Records::part`.
 #[tactic(auto, using(crate::proofs::Doubles::borne_more), unfolding(base::specs::Lists::up_to, base::specs::Lists::any))]
 fn is_borne(records: Records, k: usize) -> bool
     requires { k < most_tasks }
     ensures { result ≡ borne_in (task_of (record_part records.entry.block.now k)) (tasks_in records.entry.block.now k) }
 {
     let own = records.part(k);
-    // A loop, since any over the range takes a tenth longer.
+    // not by `any` over the range, which takes a tenth longer
     for j in 0..k {
         if records::are_alike(records.part(j), own) {
             return true;
@@ -38,7 +38,7 @@ fn is_borne(records: Records, k: usize) -> bool
     false
 }
 
-// The first record that bears what an earlier one bears. Out of line, so that the machine keeps its loop to itself: in line a block takes a third longer.
+// The first record that bears what an earlier one bears. Not in line, where a block takes a third longer.
 #[inline(never)]
 pub fn check_doubles(records: Records, side: u32) -> Verdict
     ensures { result ≡ first_of (each_double side (tasks_in records.entry.block.now records.entry.count)) }

@@ -21,7 +21,7 @@ pub fn check_seal(block: &[u8], side: u32, place: u32) -> Verdict
     rules::refuse(!sealed, Code::Check, side, place)
 }
 
-// Whether a block has a mark.
+// Whether a block has a mark, whose two bytes come apart, as the definitions have them.
 pub fn is_marked(block: &[u8], first: u8, second: u8) -> bool
     requires { 1 < length block.now }
     ensures { result ≡ marked_by first second block.now }

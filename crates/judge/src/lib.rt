@@ -56,19 +56,14 @@ fn from_offset(r: Rolled) -> New
 }
 
 impl Room {
-    const NO_JOBS: Jobs = Jobs {
-        recip: 0,
-        period: 0,
-        execution: 0,
-    };
-
+    // Memory is fixed, so each place is filled.
     pub const EMPTY: Room = Room {
         before: [Old {
-            jobs: Room::NO_JOBS,
+            jobs: Jobs::NONE,
             cut: false,
         }; MOST_TASKS],
         after: [New {
-            jobs: Room::NO_JOBS,
+            jobs: Jobs::NONE,
             offset: 0,
         }; MOST_TASKS],
     };
@@ -109,7 +104,7 @@ impl<'a> Judging<'a> {
         row::aborted_row(self.windows(&room.before[..n], &[]))
     }
 
-    // The row of a new task.
+    // The row of a new task. Beside `completed` and not one with it: it gathers other terms from another roll.
     fn entering(self, room: &mut Room) -> Judged
         ensures { Rowed Entering self.entry.old.now self.entry.new.now self.entry.task room.old room.new result }
     {

@@ -8,7 +8,7 @@ ghost use Rattle.block.specs.Answers.{first_of};
 ghost use Rattle.block.specs.Checks.{number_checks};
 ghost use Rattle.block.specs.Block.{each_entry, list_head};
 
-use block::{BLOCK_SIZE, Code, LIST_SIZE, MOST_TASKS, Verdict};
+use block::{BLOCK_SIZE, Code, LIST_SIZE, MOST_TASKS, NO_SIDE, Verdict};
 
 #[tactic(auto, unfolding(block::specs::Answers::first_of))]
 fn check_entry(numbers: &[u32; LIST_SIZE], side: u32, k: u32) -> Verdict
@@ -33,7 +33,7 @@ pub fn check_list(side: u32, size: usize, room: usize) -> Verdict
     ensures { result ≡ first_of (list_head side size room) }
 {
     rules::refuse(room != BLOCK_SIZE, Code::BlockLength, side, 0)?;
-    rules::refuse(size % LIST_SIZE != 0, Code::ListLength, 2, 0)?;
+    rules::refuse(size % LIST_SIZE != 0, Code::ListLength, NO_SIDE, 0)?;
     rules::refuse(
         1 < side || MOST_TASKS < size / LIST_SIZE,
         Code::Head,

@@ -16,6 +16,7 @@ pub fn block_of(side: u8, mode: u16, list: &[u32]) -> [u8; BLOCK_SIZE]
 {
     let entries = list.as_chunks().0;
     let mut block = puts::empty_block(side, mode, entries.len() as u8);
+    // by places, as document 01 has them
     for (k, entry) in entries.iter().enumerate() {
         let at = HEAD_SIZE + RECORD_SIZE * k;
         puts::put_record(&mut block[at..at + RECORD_SIZE], numbers::task_from(entry));

@@ -20,7 +20,7 @@ pub fn are_fit(numbers: &[u32; LIST_SIZE]) -> bool
     all_below(&numbers[..2], 256) && all_below(&numbers[2..], 65536)
 }
 
-// The task of an entry that fits. No number is cut, so `as`, and no `try_from`, whose error could not come.
+// The task of an entry that fits. No number is cut, so `as`, and no `try_from`, whose error could not come; no `From`, since neither type is of this crate.
 #[tactic(auto, using(layout::proofs::Entries::entry_small), unfolding(block::specs::Record::task_from))]
 pub fn task_from(numbers: &[u32; LIST_SIZE]) -> Task
     requires { fits numbers.now ≡ true }
@@ -44,7 +44,7 @@ pub fn put_numbers(numbers: &mut [u32], x: Task)
     requires { length numbers.old ≡ list_size }
     ensures { numbers.new ≡ numbers_of x }
 {
-    // copy_from_slice, which looks whether both overlap, takes half as long again.
+    // not by copy_from_slice, which takes half as long again
     *numbers.first_chunk_mut().unwrap() = [
         u32::from(x.kind),
         u32::from(x.priority),

@@ -11,7 +11,7 @@ ghost use Rattle.pair.specs.Verdict.{verdict_of};
 use block::{Answer, DONE, SHORT, Table, Verdict};
 use rows::ROW_SIZE;
 
-// Codes 8 to 10, and the rows once nothing is refused.
+// Codes 8 to 10, and the rows once nothing is refused. Two tables, each with its clause: document 01 has them apart (decision B10).
 #[tactic(auto, using(crate::proofs::Exits::settled))]
 pub fn settle(old: Table, new: Table, report: &mut [u32]) -> Verdict
     requires { Tabled 0 old × Tabled 1 new }
@@ -34,7 +34,7 @@ pub fn judged(old: &[u8], new: &[u8], report: &mut [u32]) -> Verdict
     settle(tasks::table_of(before), tasks::table_of(after), report)
 }
 
-// The same as an answer.
+// What `judged` says, as an answer, in a line, as in `writer::write`.
 pub fn analyse(old: &[u8], new: &[u8], report: &mut [u32]) -> Answer
     ensures { (result ≡ (analyse_of old.now new.now report.old).reply) × (report.new ≡ (analyse_of old.now new.now report.old).report) }
 {

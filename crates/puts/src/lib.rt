@@ -9,7 +9,7 @@ ghost use Rattle.block.specs.Block.{head_of};
 
 use block::{BLOCK_SIZE, HEAD_SIZE, MARK_FIRST, MARK_SECOND, Task};
 
-// A task's sixteen bytes, put into their part of a block.
+// A task's sixteen bytes, put into their part of a block, which is lent as a slice: a reference to an array is longer to lend.
 #[tactic(auto, unfolding(block::specs::Record::record_of))]
 pub fn put_record(rec: &mut [u8], x: Task)
     requires { length rec.old ≡ record_size }
@@ -20,7 +20,7 @@ pub fn put_record(rec: &mut [u8], x: Task)
     let deadline = x.deadline.to_le_bytes();
     let execution = x.execution.to_le_bytes();
     let offset = x.offset.to_le_bytes();
-    // copy_from_slice, which looks whether both overlap, takes half as long again.
+    // not by copy_from_slice, which takes half as long again
     *rec.first_chunk_mut().unwrap() = [
         x.kind,
         x.priority,

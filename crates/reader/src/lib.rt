@@ -18,7 +18,7 @@ pub fn load(block: &[u8], side: u32) -> Result<Loaded, Answer>
     Ok(Loaded { mode, table })
 }
 
-// Reading answers a list that was filled, or refuses.
+// The answer of a list that was filled, or the refusal.
 #[tactic(auto, using(crate::proofs::Outcomes::outcomes))]
 fn try_read(block: &[u8], side: u32, list: &mut [u32]) -> Result<Answer, Answer>
     ensures { let o = read_of side block.now list.old in MatchResult result (λ a. a ≡ o.reply) (λ a. a ≡ o.reply) × (list.new ≡ o.list) }

@@ -59,6 +59,7 @@ fn tell_accepted<W: Write>(
     Ok(())
 }
 
+// The lent list and what it held come apart, as in all of these programs: a struct for one call would be no plainer.
 fn tell_read<W: Write>(
     to: &mut W,
     bytes: &[u8],
@@ -68,7 +69,7 @@ fn tell_read<W: Write>(
 ) -> io::Result<()> {
     let a = reader::read(bytes, wanted, list);
     says::say_outcome(to, a, tries::same_from(list, before, 0))?;
-    // The answer is the one C gets, in numbers.
+    // The answer as C gets it: a code of 0 is done.
     if a.code == 0 {
         tell_accepted(to, a, list, before, bytes)?;
     }
@@ -97,6 +98,7 @@ fn load<W: Write>(to: &mut W, line: &[u8]) -> io::Result<()> {
 
 // A line that starts with neither letter is only printed.
 fn main(rt: HostRuntime) -> io::Result<()> {
+    // in fixed memory of each program
     let mut text = [0; 65536];
     let n = streams::read_full(&mut rt.stdin(), &mut text)?;
     says::say_lines(&mut rt.stdout(), &text[..n], |to, line| match line {

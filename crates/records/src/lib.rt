@@ -11,7 +11,7 @@ ghost use Rattle.block.specs.Checks.{record_checks, alike};
 
 use block::{Code, HEAD_SIZE, RECORD_SIZE, Task, Verdict, ZERO_PLACE};
 
-// The first `count` records of a block.
+// The first `count` records of a block. The block and a count, since the room behind them is checked too.
 #[derive(Clone, Copy)]
 pub struct Records<'a> {
     pub block: &'a [u8],
@@ -21,7 +21,7 @@ pub struct Records<'a> {
 }
 
 impl<'a> Records<'a> {
-    // The sixteen bytes of record k.
+    // The sixteen bytes of record k, a place, for which a type of its own would be no plainer.
     pub fn part(self, k: usize) -> &'a [u8; RECORD_SIZE]
         requires { k < most_tasks }
         ensures { result.now ≡ record_part self.entry.block.now k }
@@ -30,7 +30,7 @@ impl<'a> Records<'a> {
         self.block[at..at + RECORD_SIZE].first_chunk().unwrap()
     }
 
-    // The task of record k.
+    // The task of record k, a place, as above.
     pub fn task(self, k: usize) -> Task
         requires { k < most_tasks }
         ensures { result ≡ task_of (record_part self.entry.block.now k) }
@@ -39,7 +39,7 @@ impl<'a> Records<'a> {
     }
 }
 
-// The task of a record's sixteen bytes.
+// The task of a record's sixteen bytes. No `From`: neither the array nor `Task` is of this crate.
 #[tactic(auto, unfolding(block::specs::Record::task_of))]
 pub fn record_at(rec: &[u8; RECORD_SIZE]) -> Task
     ensures { result ≡ task_of rec.now }

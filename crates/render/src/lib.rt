@@ -20,7 +20,7 @@ const MOST_LINE: usize = 8 + 11 * ROW_SIZE;
 
 pub const MOST_TEXT: usize = lines::MOST_CHANGE + MOST_LINE * (MOST_TASKS + MOST_TASKS);
 
-// A task's line at a place: its letter, its number, its row.
+// A task's line at a place: its letter, its number, its row. Text and place come apart, as `put_line` has them.
 #[tactic(auto, using(lines::proofs::Put::next_fits, lines::proofs::Put::written_fits, crate::proofs::Printed::task_line_lem, crate::proofs::Printed::task_room))]
 fn put_task(text: &mut [u8], at: usize, task: &Task, row: &[u32; ROW_SIZE]) -> usize
     requires { at + most_line ≤ length text.old }
@@ -37,7 +37,7 @@ fn put_task(text: &mut [u8], at: usize, task: &Task, row: &[u32; ROW_SIZE]) -> u
     lines::put_line(text, at, &[lines::letter_of(task.kind)], &numbers)
 }
 
-// A line for each task of a table; its row is the next of the numbers.
+// A line for each task of a table; its row is the next of the numbers. Text and place come apart, as above.
 fn put_tasks(text: &mut [u8], at: usize, table: &Table, numbers: &[u32]) -> usize
     requires tabled { (length table.now.tasks ≡ most_tasks) × (table.now.count ≤ most_tasks) }
     requires room { (at + most_line * table.now.count ≤ length text.old) × (row_size * table.now.count ≤ length numbers.now) }
@@ -53,6 +53,7 @@ fn put_tasks(text: &mut [u8], at: usize, table: &Table, numbers: &[u32]) -> usiz
     end
 }
 
+// The tables come apart, as in `pair::settle`. What each of these puts stands in its clauses whole: a word for length and text together would say the same no shorter.
 #[tactic(auto, using(lines::proofs::Put::next_fits, lines::proofs::Put::written_fits, lines::proofs::Words::change_room), unfolding(lines::specs::Words::change_line))]
 fn put_done(text: &mut [u8; MOST_TEXT], olds: &Loaded, news: &Loaded, report: &[u32]) -> usize
     requires { Tabled 0 olds.now.table × Tabled 1 news.now.table × (length report.now ≡ report_room) }

@@ -10,6 +10,7 @@ use block::Task;
 use term::Demand;
 use window::Windows;
 
+// A struct, as the definitions of rows have it; `rows` lays its numbers out.
 #[derive(Clone, Copy)]
 pub struct Row {
     pub first: u32,
@@ -17,10 +18,11 @@ pub struct Row {
     pub third: u32,
 }
 
-// A task's row, or the detail of its lateness.
+// A task's row, or the detail of its lateness, a number, as C reads it.
 pub type Judged = Result<Row, u32>;
 
 impl Row {
+    // Times have their bounds in each clause, as in `term`.
     fn of(first: u64, second: u64, third: u64) -> Row
         requires { (first < 4294967296) × (second < 4294967296) × (third < 4294967296) }
         ensures { result ≡ row first second third }
@@ -78,12 +80,13 @@ pub fn completed_row(windows: Windows) -> Judged
     }
     let found = windows.over_phases();
     match found.swept {
+        // the last phase is in time as well, so 0 does not come up
         Ok(worst) => Ok(Row::of(worst.window, worst.phase, found.last.unwrap_or(0))),
         Err(x) => Err(x as u32),
     }
 }
 
-// The row of an aborted task.
+// The row of an aborted task. Late is 0, the paper's number.
 #[tactic(auto, using(crate::proofs::Windows::steady_within))]
 pub fn aborted_row(windows: Windows) -> Judged
     ensures { result ≡ aborted_row (steady_of windows.entry) }
@@ -93,7 +96,8 @@ pub fn aborted_row(windows: Windows) -> Judged
 }
 
 // The row of a new task i, of which the offset counts here. windows: the new tasks above it, as old ones for the steady window;
-// left: what the old tasks leave at the request. Late in the steady window is 0, from the request 1.
+// left: what the old tasks leave at the request, with its bound, in a clause. Late in the steady window is 0, from the
+// request 1.
 #[tactic(auto, using(crate::proofs::Windows::steady_within, crate::proofs::Windows::request_within))]
 pub fn new_row(windows: Windows, left: u64, i: Task) -> Judged
     requires { left ≤ 1966050 }

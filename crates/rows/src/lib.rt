@@ -20,7 +20,7 @@ pub const ROW_SIZE: usize = 3;
 // Room for the rows of any pair.
 pub const REPORT_ROOM: usize = ROW_SIZE * (MOST_TASKS + MOST_TASKS);
 
-// The code of a late task.
+// The number of the code of a late task, as the clause has it.
 fn late_code(side: u32) -> u32
     requires { side ≤ 1 }
     ensures { result ≡ 9 + side }
@@ -33,7 +33,8 @@ fn late_code(side: u32) -> u32
     code as u32
 }
 
-// The rows of the tasks of one side, put to the front of the numbers, or the refusal of the first late one.
+// The rows of the tasks of one side, put to the front of the numbers, or the refusal of the first late one. The rolls come apart, since
+// `Judging` is made of them here.
 fn fill(
     numbers: &mut [u32],
     room: &mut Room,
@@ -46,9 +47,10 @@ fn fill(
     requires room { row_size * length tasks.now ≤ length numbers.old }
     ensures { Filled side (row_by_rolls old.now new.now) tasks.now numbers.new result }
 {
+    // by places: of what a loop writes through an iterator the check knows lengths alone
     for (j, i) in tasks.iter().enumerate() {
         let judging = Judging { old, new, task: *i };
-        // not `map_err(..)?`: its closure takes two more locals and a law
+        // not by `map_err`, whose closure needs two more locals and a law
         match judging.row_of(room) {
             Ok(r) => {
                 let at = ROW_SIZE * j;
@@ -67,7 +69,7 @@ fn fill(
     Ok(())
 }
 
-// The rows of a pair of tables, put to the front of the report, or the first late task.
+// The rows of a pair of tables, put to the front of the report, or the first late task. The tables come apart, as in `pair::settle`.
 pub fn rows_of(old: Table, new: Table, report: &mut [u32]) -> Verdict
     requires { Tabled 0 old × Tabled 1 new × (row_size * (old.count + new.count) ≤ length report.old) }
     ensures { (result ≡ first_of (late_checks (listed old) (listed new))) × (report.new ≡ reported result (rows_of (listed old) (listed new)) report.old) }

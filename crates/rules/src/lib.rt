@@ -7,16 +7,16 @@ ghost use Rattle.base.specs.Lists.{up_to};
 ghost use Rattle.block.specs.Answers.{Verdict, number_of, refusal, refuse, first_of};
 ghost use Rattle.block.specs.Checks.{kind_on, task_checks};
 
-use block::{Answer, Code, Task, Verdict};
+use block::{Answer, Code, NO_SIDE, Task, Verdict};
 
-// A check refuses where what is wrong holds, and then names the side only if it is 0 or 1.
+// A check: it refuses where something is wrong, and then names the side only if it is 0 or 1. Side and place come apart, as in the definitions.
 pub fn refuse(wrong: bool, code: Code, side: u32, place: u32) -> Verdict
     ensures { result ≡ refuse wrong (refusal (number_of code) side place) }
 {
     if wrong {
         return Err(Answer {
             code: code as u32,
-            side: side.min(2),
+            side: side.min(NO_SIDE),
             record: place,
             detail: 0,
         });
@@ -24,7 +24,7 @@ pub fn refuse(wrong: bool, code: Code, side: u32, place: u32) -> Verdict
     Ok(())
 }
 
-// By the number of a record, which may be that of no kind (decision B1).
+// By the number that a record has for its kind, which may be that of no kind (decision B1).
 #[tactic(auto, unfolding(block::specs::Checks::kind_on))]
 fn kind_on(side: u32, kind: u8) -> bool
     ensures { result ≡ kind_on side kind }

@@ -23,6 +23,7 @@ pub fn say_numbers<W: Write>(to: &mut W, text: &[u8], numbers: &[u32]) -> io::Re
     Ok(())
 }
 
+// Here and not as `Display`, since `Answer` is of block, which has no functions.
 fn say_answer<W: Write>(to: &mut W, a: Answer) -> io::Result<()>
     ensures { OnOk result (Appends (W.contents to.old) (W.contents to.new) (said_answer a)) }
 {

@@ -7,7 +7,8 @@ ghost use Rattle.std.specs.Prelude.{◌≡◌, ◌≤◌, length, take, IfOk, If
 use std::io;
 use std::io::Read;
 
-// Reads to the front of a buffer until it is full or the input ends, and answers how many bytes came.
+// Reads to the front of a buffer until it is full or the input ends, and answers how many bytes came. The turns are counted, since a
+// proved loop has to end: each brings a byte or is the last.
 pub fn read_full<R: Read>(from: &mut R, buf: &mut [u8]) -> io::Result<usize>
     ensures bound { IfOk result (λ n. n ≤ length buf.new) }
     ensures front { IfOk result (λ n. IfSome (R.remaining from.old) (λ xs. take n buf.new ≡ take (length buf.new) xs)) }

@@ -9,6 +9,7 @@ ghost use Rattle.block.specs.Block.{tasks_in, list_of, table_of};
 use block::{LIST_SIZE, MOST_TASKS, Table, Task};
 use records::Records;
 
+// The table without tasks. Memory is fixed, so each of its places is filled.
 pub fn no_tasks() -> Table
     ensures { result ≡ table_of [] }
 {
@@ -27,7 +28,7 @@ pub fn no_tasks() -> Table
     }
 }
 
-// The table of a block's records.
+// The table of a block's records. By places: of what a loop writes through an iterator the check knows lengths alone.
 #[tactic(auto, unfolding(base::specs::Lists::up_to))]
 pub fn table_of(records: Records) -> Table
     ensures { result ≡ table_of (tasks_in records.entry.block.now records.entry.count) }
@@ -40,7 +41,7 @@ pub fn table_of(records: Records) -> Table
     table
 }
 
-// The tasks of a block's records, put to the front of a list.
+// The tasks of a block's records, put to the front of a list, by places, as above.
 pub fn put_tasks(records: Records, list: &mut [u32])
     requires { list_size * records.count ≤ length list.old }
     ensures { list.new ≡ list_of (tasks_in records.entry.block.now records.entry.count) ++ drop (list_size * records.entry.count) list.old }

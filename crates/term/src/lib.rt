@@ -1,5 +1,5 @@
 // What the tasks above one ask for, the demand that comes of it, and the next phase at which it grows. Divides by reciprocals,
-// knows no task.
+// knows no table. Times have their bounds in each clause: a type of their own would be unwrapped at every sum.
 
 #![tactic(auto)]
 
@@ -7,7 +7,8 @@ ghost use Rattle.std.specs.Prelude.{◌≡◌, ◌/◌, ◌%◌, ◌<◌, ◌≤
 ghost use Rattle.base.specs.Numbers.{jobs_in, cut_in};
 ghost use Rattle.term.specs.Terms.{Good, Ready, before, after, old_sum, new_sum, flat_demand, grows_by, next_of, next_phase, prev_of, prev_phase};
 
-// Jobs of `execution` ticks, `period` ticks apart; recip is the period's reciprocal.
+// Jobs of `execution` ticks, `period` ticks apart; recip is the period's reciprocal. That it is stands in clauses and in `Demand`, not here:
+// definitions make jobs of any task.
 #[derive(Clone, Copy)]
 pub struct Jobs {
     pub recip: u64,
@@ -40,6 +41,13 @@ pub struct Demand<'a> {
 }
 
 impl Jobs {
+    // What an array of terms holds where there is none.
+    pub const NONE: Jobs = Jobs {
+        recip: 0,
+        period: 0,
+        execution: 0,
+    };
+
     // n / period, by the period's reciprocal
     #[tactic(auto, using(crate::proofs::Shares::product_fits, crate::proofs::Shares::quotient_is))]
     fn whole(self, n: u64) -> u64

@@ -36,7 +36,7 @@ fn word(line: &[u8], k: usize) -> Option<&[u8]>
     line.split(|b| *b == b' ').nth(k)
 }
 
-// The digits of a word.
+// The digits of a word, and what comes of words off the form, which the programs print: so no `parse`.
 fn decimal(word: &[u8]) -> u32
     ensures { result ≡ decimal_of word.now }
 {
@@ -49,7 +49,7 @@ fn decimal(word: &[u8]) -> u32
 pub fn number(line: &[u8], k: usize) -> u32
     ensures { result ≡ number_of k line.now }
 {
-    // No `Option`: what the programs print of lines off the form may not change.
+    // No `Option`: where a line is off the form, the programs go on with this.
     word(line, k).map_or(u32::MAX, decimal)
 }
 
@@ -79,7 +79,8 @@ fn shift(letter: Option<u8>, n: usize) -> usize
     }
 }
 
-// Room for as many tasks as word k + 1 says, at so many numbers each, shifted as word k says. At most so much.
+// Room for as many tasks as word k + 1 says, at so many numbers each, shifted as word k says. At most so much. k is a small place, from
+// which others are counted; a type of its own would be unwrapped at each.
 pub fn room(line: &[u8], k: usize, size: usize, most: usize) -> usize
     requires { (k < 100) × (size < 256) }
     ensures { result ≡ min (room_of size k line.now) most }
@@ -114,7 +115,8 @@ fn good_task(side: u32, k: u8) -> Task
     }
 }
 
-// Tasks that break no rule, whose numbers need both their bytes where there are two.
+// Tasks that break no rule, whose numbers need both their bytes where there are two. By places: of what a loop writes through an iterator
+// the check knows lengths alone.
 pub fn good_list(side: u32) -> [u32; MOST_NUMBERS]
     ensures { result ≡ good_list side }
 {
@@ -128,7 +130,7 @@ pub fn good_list(side: u32) -> [u32; MOST_NUMBERS]
 
 // ---- damage to a block
 
-// Puts what word k + 2 of a line says at the place that its word k says.
+// Puts what word k + 2 of a line says at the place that its word k says; k is a small place, as in `room`.
 fn put_byte(bytes: &mut [u8], line: &[u8], k: usize)
     requires { k < 100 }
     ensures { bytes.new ≡ put_byte k line.now bytes.old }
@@ -162,7 +164,7 @@ pub fn damage(bytes: &mut [u8], line: &[u8])
 
 // ---- lent memory
 
-// Whether two lists are the same from a place on, as far as both go.
+// Whether two lists are the same from a place on, as far as both go: so no `==`.
 pub fn same_from(a: &[u32], b: &[u32], from: usize) -> bool
     ensures { result ≡ agree (drop from a.now) (drop from b.now) }
 {

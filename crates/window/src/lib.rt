@@ -1,4 +1,5 @@
-// The kind of a task, the search for the least closing t, and the worst window over all phases.
+// The kind of a task, the search for the least closing t, and the worst window over all phases. Times have
+// their bounds in each clause, as in `term`.
 
 #![tactic(auto)]
 
@@ -19,14 +20,15 @@ pub struct Worst {
     pub phase: u64,
 }
 
-// What all phases gave, the worst window or the first late phase; and the window at the last one.
+// What all phases gave, the worst window or the first late phase; and the window at the last one, since a row has both.
 #[derive(Clone, Copy)]
 pub struct Course {
     pub swept: Result<Worst, u64>,
     pub last: Option<u64>,
 }
 
-// The last phase that was searched, how far its window reached, and its demand at the request itself (all 0 where none was searched).
+// The last phase that was searched, how far its window reached, and its demand at the request itself. All 0 where none was
+// searched: of zeros `start_at` finds that nothing reached behind a request.
 #[derive(Clone, Copy)]
 pub struct Searched {
     pub phase: u64,
@@ -43,7 +45,7 @@ pub struct State {
     pub last: Searched,
 }
 
-// Between phases that go by backwards: the worst so far, and the last search.
+// Between phases that go by backwards: the worst so far, and the last search. `State` has two fields more, and no use for one in the other.
 #[derive(Clone, Copy)]
 pub struct Back {
     pub best: Worst,
@@ -60,7 +62,7 @@ pub struct Windows<'a> {
     pub ghost few: { limit < 65536 },
 }
 
-// The kind that the number of a task's record stands for.
+// The kind of a task, by its number. A function, since neither type is of this crate, so that `From` can't be.
 pub fn kind_of(x: Task) -> Kind
     ensures { result ≡ kind_of x }
 {

@@ -11,7 +11,7 @@ use std::io;
 use std::io::Write;
 use tries::{MODE, MOST_BYTES, MOST_NUMBERS, NO_BYTE, NO_NUMBER, number};
 
-// The place in a list that word k of a line names by a field and its word k + 2 by a task.
+// The place in a list that word k of a line names by a field and its word k + 2 by a task; k is a small place, as in `tries::room`.
 fn place(line: &[u8], k: usize) -> Option<usize>
     requires { k < 100 }
 {
@@ -45,6 +45,7 @@ fn reads_back(side: u32, bytes: &[u8], list: &[u32]) -> bool {
     tries::same_from(&again, list, 0)
 }
 
+// The lent block and what it held come apart, as in all of these programs: a struct for one call would be no plainer.
 fn tell_write<W: Write>(
     to: &mut W,
     side: u32,
@@ -54,7 +55,7 @@ fn tell_write<W: Write>(
 ) -> io::Result<()> {
     let a = writer::write(side, MODE, list, bytes);
     says::say_outcome(to, a, &*bytes == before)?;
-    // The answer is the one C gets, in numbers.
+    // The answer as C gets it: a code of 0 is done.
     if a.code == 0 {
         let same = reads_back(side, bytes, list);
         says::say_check(to, bytes)?;
@@ -75,6 +76,7 @@ fn write<W: Write>(to: &mut W, line: &[u8]) -> io::Result<()> {
 
 // A line that does not start as a writing is only printed.
 fn main(rt: HostRuntime) -> io::Result<()> {
+    // in fixed memory of each program
     let mut text = [0; 65536];
     let n = streams::read_full(&mut rt.stdin(), &mut text)?;
     says::say_lines(&mut rt.stdout(), &text[..n], |to, line| match line {
