@@ -5,9 +5,10 @@ use mathlib.Core.Bool.{Bool, true, false, ◌&&◌, ◌||◌}
 use mathlib.Core.List.{List, [], ◌∷◌, ◌++◌, append_assoc, append-nil, flat_map}
 use mathlib.Core.Logic.{⊎_elim}
 use native.Mathlib.Nat.{eq-or-lt_of_le, mul-zero, mul-suc}
+use native.Mathlib.Numerals.{add-one}
 use native.Mathlib.Omega.{arith}
-use lib.ListN.{length, get_or, take, drop, length-append, get_or-append, drop_of_length-le}
-use lib.Seq.{take-append-le, drop-append-add, take_all, take-length, take-suc, get_or_at, take_at, drop_at}
+use lib.ListN.{length, get_or, take, drop, set, length-append, get_or-append, drop_of_length-le}
+use lib.Seq.{take-append-le, drop-append-add, take_all, take-length, take-suc, drop-cons, set_at, length-take-le, get_or_at, take_at, drop_at}
 use Rattle.base.proofs.Search.{le_or_lt}
 use Rattle.base.specs.Lists.{up_to, every, any, over}
 
@@ -91,6 +92,12 @@ module _ {A : Type 0} where
   every_all p [] d h = refl
   every_all p (x ∷ xs) d h = rw (h 0 (omega arith), every_all p xs d (λ i l. h (suc i) (omega arith)))
 
+  pub every_not : (p : A → Bool) (l : List A) (i : ℕ) (d : A) → i < length l → p (get_or l i d) ≡ false → every p l ≡ false
+  unfolding every
+  every_not p [] i d h e = absurd (omega arith)
+  every_not p (x ∷ xs) zero d h e = rw e
+  every_not p (x ∷ xs) (suc i) d h e = rw (every_not p xs i d (omega arith) e) (and_false (p x))
+
   pub any_more : (p : A → Bool) (xs ys : List A) → any p (xs ++ ys) ≡ any p xs || any p ys
   unfolding any
   any_more p [] ys = refl
@@ -115,6 +122,18 @@ module _ {A : Type 0} where
 
   -- ---- one list laid over another
 
+  pub over_more : (d d₀ s : List A) (i : ℕ) (z : A) → i < length s → i < length d₀ → d ≡ take i s ++ drop i d₀
+      → set d i (get_or s i z) ≡ take (i + 1) s ++ drop (i + 1) d₀
+  over_more d d₀ s i z hs hd e =
+      rw (
+        add-one,
+        e,
+        drop-cons d₀ i z hd,
+        set_at (take i s) (get_or d₀ i z) (drop (suc i) d₀) (get_or s i z) i (length-take-le i s (omega arith)),
+        take-suc s i z hs,
+      )
+      (sym (append_assoc (take i s) (get_or s i z ∷ []) (drop (suc i) d₀)))
+
   pub over_end : (d d₀ s : List A) (i : ℕ) → i ≡ min (length s) (length d₀) → d ≡ take i s ++ drop i d₀ → d ≡ over s d₀
   unfolding over
   over_end d d₀ s i h e = ⊎_elim short long (le_or_lt (length s) (length d₀))
@@ -126,6 +145,14 @@ module _ {A : Type 0} where
       long l =
           let j : i ≡ length d₀ = omega arith in
           rw (drop_of_length-le d₀ {i = length s} (omega arith)) (e ∙ rw (j, drop_of_length-le d₀ {i = length d₀} (omega arith)))
+
+  -- with room enough
+  pub over_front : (s d : List A) → length s ≤ length d → over s d ≡ s ++ drop (length s) d
+  unfolding over
+  over_front s d h = rw (take_all (length d) s h)
+
+  pub over_same : (s d : List A) → length s ≡ length d → over s d ≡ s
+  over_same s d h = over_front s d (omega arith) ∙ rw (drop_of_length-le d {i = length s} (omega arith)) (append-nil s)
 
   -- a piece of w elements put at the end of the front
   pub put_part : (front tail piece : List A) (at w : ℕ) → length front ≡ at

@@ -38,6 +38,15 @@ module _ (f : ℕ → ℕ) (limit : ℕ) where
   pub climb_start : (c : ℕ) → 1 ≤ c → c ≤ limit → ((u : ℕ) → c ≤ f u) → Climbs f limit c
   climb_start c h l b = record { first = h; within = l; up = b c; unmet = λ u g. omega (arith, b u) }
 
+  pub climb_next : (t d : ℕ) → Rises f → Climbs f limit t → d ≡ f t → d ≤ limit → Climbs f limit d
+  climb_next t d r k e l =
+      record {
+        first = omega (arith, k.up, k.first);
+        within = l;
+        up = omega (arith, k.up, r t d (omega (arith, k.up)));
+        unmet = λ u g. rise f t r k.unmet u (omega arith);
+      }
+
   pub climb_at : (t d : ℕ) → Climbs f limit t → d ≡ f t → d ≡ t → window_of f limit ≡ Some t
   unfolding window_of
   climb_at t d k e m = where_at _ t limit 1 k.first (omega (arith, k.within)) (λ u a l. lt-leb (f u) u (k.unmet u l)) (le-leb (f t) t (omega arith))

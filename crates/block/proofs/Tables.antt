@@ -4,8 +4,8 @@ use mathlib.Core.Path.{◌≡◌, sym, subst, ◌∙◌}
 use mathlib.Core.List.{List, [], ◌∷◌, ◌++◌, append_assoc}
 use native.Mathlib.Numerals.{add-one}
 use native.Mathlib.Omega.{arith}
-use lib.ListN.{length, set, replicate, length-append, length-replicate}
-use lib.Seq.{set_at, take-append_seam, length-take-le}
+use lib.ListN.{length, get_or, set, replicate, length-append, length-replicate}
+use lib.Seq.{set_at, get_or-take, take-append_seam, length-take-le}
 use Rattle.base.specs.Lists.{up_to}
 use Rattle.base.proofs.Lists.{up_length}
 use Rattle.block.specs.declared.Task.{Task}
@@ -48,3 +48,6 @@ table_tabled side xs h =
 module _ (side : ℕ) (t : Table) (h : Tabled side t) where
   pub listed_length : length (listed t) ≡ t.count
   listed_length = length-take-le t.count t.tasks (omega (arith, h.places, h.few))
+
+  pub listed_at : (j : ℕ) → j < t.count → get_or (listed t) j no_task ≡ get_or t.tasks j no_task
+  listed_at j l = get_or-take t.count t.tasks j no_task l

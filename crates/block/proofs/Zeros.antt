@@ -1,5 +1,5 @@
 -- Bytes are all zero exactly if they add up to zero, and exactly if they are so many zeros.
-use Prim.Native.Nat.{ℕ, zero, suc, ◌+◌}
+use Prim.Native.Nat.{ℕ, zero, suc, ◌+◌, ◌≤◌}
 use mathlib.Core.Path.{◌≡◌, refl, ap}
 use mathlib.Core.Bool.{true}
 use mathlib.Core.List.{List, [], ◌∷◌}
@@ -11,6 +11,11 @@ use Rattle.base.specs.Lists.{every}
 use Rattle.base.specs.Sums.{sum_of}
 use Rattle.base.proofs.Lists.{every_all, and_left, and_right}
 use Rattle.block.specs.Record.{all_zero}
+
+-- two numbers that are zero together
+pub same_zero : (m n : ℕ) → m ≤ n → (m ≡ 0 → n ≡ 0) → eqb m 0 ≡ eqb n 0
+same_zero zero n h f = let e : n ≡ 0 = f refl in rw e
+same_zero (suc m) n h f = rw (ne_eqb (suc m) 0 (λ e. omega arith), ne_eqb n 0 (λ e. omega arith))
 
 pub zero_sum : (l : List ℕ) → eqb (sum_of (λ b. b) l) 0 ≡ all_zero l
 unfolding sum_of every

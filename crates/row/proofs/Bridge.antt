@@ -4,6 +4,7 @@ use mathlib.Core.Path.{◌≡◌, refl, sym, ap, ◌∙◌}
 use mathlib.Core.Bool.{Bool, true, false, not, ◌&&◌, cond}
 use mathlib.Core.List.{List, [], ◌∷◌, map}
 use lib.ListN.{length, get_or}
+use Rattle.std.specs.Prelude.{All}
 use native.Mathlib.Omega.{arith}
 use Rattle.base.specs.Sums.{sum_of}
 use Rattle.base.proofs.Search.{window_same}
@@ -20,6 +21,7 @@ use Rattle.window.specs.Demand.{sum_above, own_time, jobs, old_term, left_term, 
 use Rattle.window.specs.Worst.{sweep}
 use Rattle.window.specs.Phases.{window_at}
 use Rattle.window.proofs.Steady.{later_is_steady}
+use Rattle.above.specs.declared.Rolled.{Rolled}
 use Rattle.above.specs.Roll.{is_aborted, rolled, old_of, whole_of, new_of, terms_above, left_above}
 use Rattle.above.proofs.Above.{sum_terms, sum_left}
 use Rattle.row.specs.Flat.{flat_steady, flat_request}
@@ -52,23 +54,29 @@ same_sum f g [] h = refl
 same_sum f g (x ∷ xs) h = omega (arith, h 0 (omega arith), same_sum f g xs (λ j l. h (suc j) (omega arith)))
 
 module _ (i : Task) (xs : List Task) where
-  whole_flat : (m : ℕ) → old_sum (terms_above whole_of (rank i) (map rolled xs)) m ≡ sum_above i (λ x. jobs x m) xs
-  unfolding before sum_above
-  whole_flat m = sum_terms (before m) whole_of (rank i) xs
-
   new_flat : (u : ℕ) → new_sum (terms_above new_of (rank i) (map rolled xs)) u ≡ sum_above i (λ x. jobs x (u - x.offset)) xs
   unfolding after sum_above
   new_flat u = sum_terms (after u) new_of (rank i) xs
 
-  -- whole jobs give the steady window
+  -- terms that are whole jobs of each task of the list give the steady window
+  module _ (t : Rolled → Old) (whole : All (λ x. t (rolled x) ≡ whole_of (rolled x)) xs) where
+    whole_flat : (m : ℕ) → old_sum (terms_above t (rank i) (map rolled xs)) m ≡ sum_above i (λ x. jobs x m) xs
+    unfolding before sum_above
+    whole_flat m =
+        sum_terms (before m) t (rank i) xs
+        ∙ same_sum _ _ xs (λ j h. ap (λ (e : Old). cond (above i (get_or xs j no_task)) (before m e) 0) (whole j no_task h))
+
+    pub whole_steady_by : flat_steady (own_time i) (terms_above t (rank i) (map rolled xs)) i.deadline ≡ steady_window xs i
+    unfolding flat_steady steady_demand
+    whole_steady_by =
+        window_same (flat_demand (own_time i) terms [] i.deadline) (steady_demand xs i) i.deadline
+        (λ u h. omega (arith, flat_steady_lem (own_time i) terms i.deadline u h, whole_flat u))
+      where
+        terms : List Old
+        terms = terms_above t (rank i) (map rolled xs)
+
   pub whole_steady : flat_steady (own_time i) (terms_above whole_of (rank i) (map rolled xs)) i.deadline ≡ steady_window xs i
-  unfolding flat_steady steady_demand
-  whole_steady =
-      window_same (flat_demand (own_time i) terms [] i.deadline) (steady_demand xs i) i.deadline
-      (λ u h. omega (arith, flat_steady_lem (own_time i) terms i.deadline u h, whole_flat u))
-    where
-      terms : List Old
-      terms = terms_above whole_of (rank i) (map rolled xs)
+  whole_steady = whole_steady_by whole_of (λ k d h. refl)
 
   module _ (legal : Legal 0 xs) where
     old_flat : (m : ℕ) → old_sum (terms_above old_of (rank i) (map rolled xs)) m ≡ sum_above i (λ x. old_term (kind_of x) x m) xs

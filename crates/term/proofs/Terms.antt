@@ -1,10 +1,10 @@
 -- Laws of flat demands: they rise with t, agree before both requests, and do not grow where the old tasks do not.
-use Prim.Native.Nat.{ℕ, suc, ◌+◌, ◌*◌, ◌%◌, ◌-◌, ◌/◌, ◌≤◌, ◌<◌, min, max}
+use Prim.Native.Nat.{ℕ, zero, suc, ◌+◌, ◌*◌, ◌%◌, ◌-◌, ◌/◌, ◌≤◌, ◌<◌, min, max}
 use mathlib.Core.Path.{◌≡◌, refl}
 use mathlib.Core.Bool.{Bool, true, false, cond}
 use mathlib.Core.List.{List, [], ◌∷◌}
 use mathlib.Core.Logic.{⊎_elim}
-use lib.ListN.{length, get_or, drop}
+use lib.ListN.{length, get_or, take, drop}
 use lib.Dec.{ltb}
 use borrow.Author.Tests.{lt-ltb, le-ltb}
 use native.Mathlib.Omega.{arith}
@@ -176,6 +176,16 @@ pub phase_some : (o : List Old) (m : ℕ) → 1 ≤ prev_phase o m
 unfolding prev_phase
 phase_some [] m = omega arith
 phase_some (e ∷ o) m = omega (arith, phase_some o m)
+
+-- once it is m + 1 it stays so
+pub phase_stays : (o : List Old) (w : List New) (m j : ℕ) → Ready o w → m < prev_phase (take j o) m → prev_phase (take j o) m ≡ prev_phase o m
+unfolding prev_phase
+phase_stays o w m j r g = omega (arith, up o j, phase_by o w m r)
+  where
+    up : (o : List Old) (j : ℕ) → prev_phase (take j o) m ≤ prev_phase o m
+    up o zero = phase_some o m
+    up [] (suc j) = omega arith
+    up (e ∷ o) (suc j) = omega (arith, up o j)
 
 pub prev_more : (o : List Old) (i m p : ℕ) (d : Old) → p ≡ prev_of m (get_or o i d) → i < length o → prev_phase (drop i o) m ≡ max p (prev_phase (drop (i + 1) o) m)
 unfolding prev_phase

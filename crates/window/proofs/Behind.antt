@@ -143,13 +143,14 @@ module _ {f : ℕ → ℕ → ℕ} {c : ℕ} (fam : Family f c) where
         fits = held.fits;
       }
 
+  pub fine_still : {limit : ℕ} (b : Worst) (z y : ℕ) → z ≤ y → ((t : ℕ) → f y t ≤ f z t) → Fine f limit b z → Fine f limit b y
+  fine_still b z y h q d = record { v = d.v; some = d.some; shuts = le_trans (q d.v) d.shuts; by = d.by; less = λ i. d.less (omega arith) }
+
   -- z was seen, and up to x the demand is nowhere above that at z: so all phases from z on are fine
   pub fine_from : {limit x z : ℕ} {s r : Back} → z < x → ((y : ℕ) → x ≤ y → y ≤ limit → Fine f limit s.best y) → Seen f limit z s r
       → ((y t : ℕ) → z ≤ y → y < x → f y t ≤ f z t) → (y : ℕ) → z ≤ y → y ≤ limit → Fine f limit r.best y
-  fine_from {limit = limit} {x = x} {r = r} l done seen low y h i = ⊎_elim (λ j. seen.keeps y (omega arith) (done y j i)) between (le_or_lt x y)
-    where
-      between : y < x → Fine f limit r.best y
-      between j = let d = seen.fine in record { v = d.v; some = d.some; shuts = le_trans (low y d.v h j) d.shuts; by = d.by; less = λ k. d.less (omega arith) }
+  fine_from {x = x} {z = z} {r = r} l done seen low y h i =
+      ⊎_elim (λ j. seen.keeps y (omega arith) (done y j i)) (λ j. fine_still r.best z y h (λ t. low y t h j) seen.fine) (le_or_lt x y)
 
   -- ---- one phase
   module _ {limit : ℕ} (x : ℕ) {s : Back} (pos : 1 ≤ x) (held : Held f limit (x + 1) s) where

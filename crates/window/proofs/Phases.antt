@@ -10,7 +10,7 @@ use Rattle.base.specs.Search.{Climbs}
 use Rattle.base.proofs.Search.{Rises, Window, window_found, window_by, climb_from, le_or_lt}
 use Rattle.term.specs.declared.Old.{Old}
 use Rattle.term.specs.declared.New.{New}
-use Rattle.term.specs.Terms.{Ready, next_phase, prev_phase}
+use Rattle.term.specs.Terms.{Ready, flat_demand, next_phase, prev_phase}
 use Rattle.term.proofs.Terms.{flat_rises, flat_same, flat_least, flat_shift, flat_calm, phase_still, phase_level}
 use Rattle.window.specs.declared.Worst.{Worst}
 use Rattle.window.specs.declared.Windows.{Windows}
@@ -183,12 +183,11 @@ module _ {f : ℕ → ℕ → ℕ} {c : ℕ} (fam : Family f c) where
             told = seen.told;
           }
 
+pub flat_family : (c : ℕ) (o : List Old) (w : List New) → 1 ≤ c → Family (flat_demand c o w) c
+flat_family c o w h = record { rises = flat_rises c o w; same = flat_same c o w; least = flat_least c o w; some = h; shift = flat_shift c o w }
+
 pub family : (w : Windows) → Family (asks w.demand) w.demand.own
-family w =
-    let c = w.demand.own in
-    let o = w.demand.old.now in
-    let n = w.demand.new.now in
-    record { rises = flat_rises c o n; same = flat_same c o n; least = flat_least c o n; some = w.some; shift = flat_shift c o n }
+family w = flat_family w.demand.own w.demand.old.now w.demand.new.now w.some
 
 pub phase_later : (o : List Old) (w : List New) (x limit : ℕ) → Ready o w → x ≤ limit → x < next_phase o x limit
 phase_later o w x limit r h = (phase_still o w x limit r h).later
