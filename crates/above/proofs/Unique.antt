@@ -1,4 +1,4 @@
--- Each public function's contract leaves one answer and one content of the lent list; gather's, where what it calls gives one term of each task.
+-- Each public function's contract leaves one answer and one content of the lent list; gather's leaves one content where what it calls gives one term of each task.
 use mathlib.Core.Path.{◌≡◌, sym, ◌∙◌}
 use contract.Lifetimes.{Lfts}
 use borrow.Fn.Kinds.{Dens, res_t, ended_of}
@@ -36,9 +36,9 @@ roll_unique κs a r r' s s' p q = p.0 ∙ sym q.0
 module _ (T F : RattleType) (laws : Laws T) (laws' : Laws F) (copy : IsCopy T) (clone : Ghosts T.Denot) (d : Dict) (calls : called.Ghosts T F) (d1 d2 d3 d4 : Dict) where
   pub gather_unique : (κs : Lfts 4) (a : Dens κs (gather_kinds.ps T F laws laws' copy)) (r r' : (res_t (gather_kinds.r T F laws laws' copy) κs).Denot)
       (s s' : AtExit (ended_of 4 (gather_kinds.ps T F laws laws' copy) (gather_kinds.r T F laws laws' copy)) κs)
-      → (t : Rolled → T.Denot) → Gives ((called.words T F calls).post a.1.1.1.0) t a.1.0.now
-      → gather.Post T F laws laws' copy clone d calls d1 d2 d3 d4 κs a r s → gather.Post T F laws laws' copy clone d calls d1 d2 d3 d4 κs a r' s' → (r ≡ r') × (s.0.now ≡ s'.0.now)
-  gather_unique κs a r r' s s' t e p q = (p.0.0 ∙ sym q.0.0, (p.1 t e).0 ∙ sym (q.1 t e).0)
+      → gather.Post T F laws laws' copy clone d calls d1 d2 d3 d4 κs a r s → gather.Post T F laws laws' copy clone d calls d1 d2 d3 d4 κs a r' s'
+      → (r ≡ r') × ((t : Rolled → T.Denot) → Gives ((called.words T F calls).post a.1.1.1.0) t a.1.0.now → s.0.now ≡ s'.0.now)
+  gather_unique κs a r r' s s' p q = (p.0.0 ∙ sym q.0.0, λ t e. (p.1 t e).0 ∙ sym (q.1 t e).0)
 
 pub left_unique : (κs : Lfts 1) (a : Dens κs left_kinds.ps) (r r' : (res_t left_kinds.r κs).Denot) (s s' : AtExit (ended_of 1 left_kinds.ps left_kinds.r) κs)
     → left.Post κs a r s → left.Post κs a r' s' → r ≡ r'
