@@ -9,12 +9,18 @@ use denote.Triple.Clauses.{AtExit}
 use mir.Syntax.{Dict}
 use Rattle.block.specs.Answers.{Verdict}
 use Rattle.rules.specs.contracts.first_refusal.F-Fn.{Ghosts}
+use Rattle.rules.proofs.refused.Reads as refused
+use Rattle.rules.proofs.refused.Kinds as refused_kinds
 use Rattle.rules.proofs.refuse.Reads as refuse
 use Rattle.rules.proofs.refuse.Kinds as refuse_kinds
 use Rattle.rules.proofs.check_task.Reads as check_task
 use Rattle.rules.proofs.check_task.Kinds as check_task_kinds
 use Rattle.rules.proofs.first_refusal.Reads as first_refusal
 use Rattle.rules.proofs.first_refusal.Kinds as first_refusal_kinds
+
+pub refused_unique : (κs : Lfts 0) (a : Dens κs refused_kinds.ps) (r r' : (res_t refused_kinds.r κs).Denot) (s s' : AtExit (ended_of 0 refused_kinds.ps refused_kinds.r) κs)
+    → refused.Post κs a r s → refused.Post κs a r' s' → r ≡ r'
+refused_unique κs a r r' s s' p q = p ∙ sym q
 
 pub refuse_unique : (κs : Lfts 0) (a : Dens κs refuse_kinds.ps) (r r' : (res_t refuse_kinds.r κs).Denot) (s s' : AtExit (ended_of 0 refuse_kinds.ps refuse_kinds.r) κs)
     → refuse.Post κs a r s → refuse.Post κs a r' s' → r ≡ r'

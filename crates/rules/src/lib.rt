@@ -2,24 +2,31 @@
 
 #![tactic(auto)]
 
-ghost use Rattle.std.specs.Prelude.{ℕ, ◌≡◌, ◌<◌, min};
+ghost use Rattle.std.specs.Prelude.{Err, ℕ, ◌≡◌, ◌<◌, min};
 ghost use Rattle.base.specs.Lists.{up_to};
 ghost use Rattle.block.specs.Answers.{Verdict, number_of, refusal, refuse, first_of};
 ghost use Rattle.block.specs.Checks.{kind_on, task_checks};
 
 use block::{Answer, Code, NO_SIDE, Task, Verdict};
 
-// A check: it refuses where something is wrong, and then names the side only if it is 0 or 1. Side and place come apart, as in the definitions.
+// The refusal of a code, by its number: it names the side only if it is 0 or 1. Side and place come apart, as in the definitions.
+pub fn refused(code: u32, side: u32, place: u32) -> Verdict
+    ensures { result ≡ Err (refusal code side place) }
+{
+    Err(Answer {
+        code,
+        side: side.min(NO_SIDE),
+        record: place,
+        detail: 0,
+    })
+}
+
+// A check: it refuses where something is wrong.
 pub fn refuse(wrong: bool, code: Code, side: u32, place: u32) -> Verdict
     ensures { result ≡ refuse wrong (refusal (number_of code) side place) }
 {
     if wrong {
-        return Err(Answer {
-            code: code as u32,
-            side: side.min(NO_SIDE),
-            record: place,
-            detail: 0,
-        });
+        return refused(code as u32, side, place);
     }
     Ok(())
 }
