@@ -48,8 +48,9 @@ fn tell_accepted<W: Write>(
     let end = LIST_SIZE * count;
     let kept = tries::same_from(list, before, end);
     let same = writes_back(a, list, end, bytes);
-    says::say_whether(to, kept, b", rest kept", b", rest changed")?;
-    says::say_whether(to, same, b", back same", b", back other")?;
+    to.write_all(b", rest")?;
+    says::say_kept(to, kept)?;
+    says::say_back(to, same)?;
     if 0 < count {
         says::say_entry(to, list, 0)?;
     }

@@ -25,6 +25,9 @@ said_kept kept = cond kept (codes " kept") (codes " changed")
 abbrev pub said_outcome : Answer → Bool → List ℕ
 said_outcome a kept = said_answer a ++ said_kept kept
 
+abbrev pub said_back : Bool → List ℕ
+said_back same = cond same (codes ", back same") (codes ", back other")
+
 -- the check of a whole block; nothing of any other bytes
 abbrev pub said_check : List ℕ → List ℕ
 said_check bytes = cond (eqb (length bytes) block_size) (codes ", check " ++ decimal (word_at bytes check_place)) []

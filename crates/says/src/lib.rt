@@ -1,4 +1,4 @@
-// What the programs that run edge cases print, to any writer: each function writes the bytes that specs/Said.antt says, or fails.
+// What the programs that run edge cases print, to any writer: each function writes the bytes that its contract says (specs/Said.antt and specs/Lines.antt), or fails.
 
 #![tactic(auto)]
 
@@ -6,7 +6,7 @@ ghost use Rattle.std.specs.Prelude.{◌≡◌, ◌<◌, OnOk, MatchOption, cond,
 ghost use Rattle.std.specs.Io.KnownBytes.{Appends};
 ghost use Rattle.std.specs.List.{FoldsTo};
 ghost use Rattle.says.specs.Lines.{lines_of, Answers};
-ghost use Rattle.says.specs.Said.{said_numbers, said_answer, said_outcome, said_check, said_task, said_table, said_loading, said_loaded, said_entry};
+ghost use Rattle.says.specs.Said.{said_numbers, said_answer, said_kept, said_outcome, said_back, said_check, said_task, said_table, said_loading, said_loaded, said_entry};
 
 use block::{Answer, BLOCK_SIZE, CHECK_PLACE, DONE, LIST_SIZE, Loaded, MOST_TASKS, Table, Task};
 use std::io;
@@ -27,7 +27,7 @@ pub fn say_numbers<W: Write>(to: &mut W, text: &[u8], numbers: &[u32]) -> io::Re
 fn say_answer<W: Write>(to: &mut W, a: Answer) -> io::Result<()>
     ensures { OnOk result (Appends (W.contents to.old) (W.contents to.new) (said_answer a)) }
 {
-    write!(to, ": {} {} {} {}", a.code, a.side, a.record, a.detail)
+    say_numbers(to, b":", &[a.code, a.side, a.record, a.detail])
 }
 
 // Of two texts the first where a fact holds, and else the second.
@@ -37,12 +37,26 @@ pub fn say_whether<W: Write>(to: &mut W, holds: bool, yes: &[u8], no: &[u8]) -> 
     to.write_all(if holds { yes } else { no })
 }
 
+// Whether memory is as it was.
+pub fn say_kept<W: Write>(to: &mut W, kept: bool) -> io::Result<()>
+    ensures { OnOk result (Appends (W.contents to.old) (W.contents to.new) (said_kept kept)) }
+{
+    say_whether(to, kept, b" kept", b" changed")
+}
+
+// Whether a way back, from block to list or from list to block, gives the same.
+pub fn say_back<W: Write>(to: &mut W, same: bool) -> io::Result<()>
+    ensures { OnOk result (Appends (W.contents to.old) (W.contents to.new) (said_back same)) }
+{
+    say_whether(to, same, b", back same", b", back other")
+}
+
 // An answer, and whether the lent memory is as it was.
 pub fn say_outcome<W: Write>(to: &mut W, a: Answer, kept: bool) -> io::Result<()>
     ensures { OnOk result (Appends (W.contents to.old) (W.contents to.new) (said_outcome a kept)) }
 {
     say_answer(to, a)?;
-    say_whether(to, kept, b" kept", b" changed")
+    say_kept(to, kept)
 }
 
 // The check of a whole block.

@@ -59,7 +59,7 @@ fn tell_write<W: Write>(
     if a.code == 0 {
         let same = reads_back(side, bytes, list);
         says::say_check(to, bytes)?;
-        says::say_whether(to, same, b", back same", b", back other")?;
+        says::say_back(to, same)?;
     }
     Ok(())
 }
