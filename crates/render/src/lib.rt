@@ -85,16 +85,17 @@ fn put_refusal(text: &mut [u8; MOST_TEXT], answer: Answer) -> usize
     lines::put_line(text, 0, b"refused", &numbers)
 }
 
-// The lines of a change that is not refused.
+// The lines of a change that is not refused. Through `judged`, as every pair goes; the loads of two blocks that it passed tell the modes and
+// the tasks to print.
 #[tactic(auto, using(crate::proofs::Printed::load_tabled))]
 fn put_change(text: &mut [u8; MOST_TEXT], old: &[u8], new: &[u8]) -> Result<usize, Answer>
     ensures ok { IfOk result (λ end. (end ≡ length (pair_lines old.now new.now)) × (end ≤ most_text) × (text.new ≡ put text.old 0 (pair_lines old.now new.now))) }
     ensures err { IfErr result (λ answer. (text.new ≡ text.old) × (refused_line answer ≡ pair_lines old.now new.now)) }
 {
+    let mut report = [0u32; REPORT_ROOM];
+    pair::judged(old, new, &mut report)?;
     let olds = reader::load(old, 0)?;
     let news = reader::load(new, 1)?;
-    let mut report = [0u32; REPORT_ROOM];
-    pair::settle(olds.table, news.table, &mut report)?;
     Ok(put_done(text, &olds, &news, &report))
 }
 
