@@ -11,6 +11,9 @@ ghost use Rattle.batch.specs.Dot.{dot_line};
 use std::io;
 use std::io::{ErrorKind, Read, Write};
 
+// The line that ends an answer.
+const DOT: &[u8; 2] = b".\n";
+
 // Fills a buffer, and answers whether the bytes came: an input that ends before is no error.
 fn read_part<R: Read>(from: &mut R, part: &mut [u8]) -> io::Result<bool> {
     match from.read_exact(part) {
@@ -20,12 +23,16 @@ fn read_part<R: Read>(from: &mut R, part: &mut [u8]) -> io::Result<bool> {
     }
 }
 
-// Writes the lines of an input and a line with a dot.
+// Writes the lines of an input and a line with a dot, all at once: whoever reads them gets no answer without its dot.
+#[tactic(auto, using(lines::proofs::Put::next_fits, lines::proofs::Put::written_fits, lines::proofs::Put::put_front))]
 fn answer<W: Write>(to: &mut W, input: &[u8]) -> io::Result<()>
     ensures { OnOk result (Appends (W.contents to.old) (W.contents to.new) (printed input.now ++ dot_line)) }
 {
-    render::write_text(to, input)?;
-    to.write_all(b".\n")
+    let mut out = [0u8; render::MOST_TEXT + DOT.len()];
+    let end = render::render(input, &mut out);
+    let all = end + DOT.len();
+    out[end..all].copy_from_slice(DOT);
+    to.write_all(&out[..all])
 }
 
 // Reads and answers one input, and says whether to go on.
