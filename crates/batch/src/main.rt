@@ -24,7 +24,7 @@ fn read_part<R: Read>(from: &mut R, part: &mut [u8]) -> io::Result<bool> {
 }
 
 // Writes the lines of an input and a line with a dot, all at once: whoever reads them gets no answer without its dot.
-#[tactic(auto, using(lines::proofs::Put::next_fits, lines::proofs::Put::written_fits, lines::proofs::Put::put_front))]
+#[tactic(auto, using(lines::proofs::Put::next_fits))]
 fn answer<W: Write>(to: &mut W, input: &[u8]) -> io::Result<()>
     ensures { OnOk result (Appends (W.contents to.old) (W.contents to.new) (printed input.now ++ dot_line)) }
 {

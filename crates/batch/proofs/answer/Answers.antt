@@ -1,5 +1,5 @@
 -- The text and the dot behind it fill the front of the room, as one.
-use Rattle.std.proofs.Common.{◌≡◌, ℕ, ◌+◌, ◌-◌, ◌≤◌, List, ◌++◌, length, take, length-append, arith, ◌∙◌, OnOk}
+use Rattle.std.proofs.Common.{◌≡◌, ℕ, ◌+◌, ◌-◌, ◌≤◌, List, ◌++◌, length, take, length-append, arith, subst, ◌∙◌, OnOk}
 use borrow.Rule.Slice.PartMut.{put_mid}
 use Rattle.std.specs.Io.KnownBytes.{Appends}
 use Rattle.lines.specs.Put.{put, next, written}
@@ -19,6 +19,6 @@ both b s u v mid end room e m f =
 
 pub returns : goal.returns
 returns g c =
-    let w = c.write_all.ensures.bytes in
-    let h = both _ (printed c.args.input.now) dot_line _ _ _ (omega (arith, c.render-end.ensures.bounded)) c.render-end.ensures.value c.render-end.ensures.out_after c.copy_from_slice.ensures.after in
-    rw h at w
+    subst (λ (l : List ℕ). OnOk c.write_all.result (Appends (g.W.Write.contents c.args.to.now) (g.W.Write.contents c.write_all.new.self) l))
+    (both _ (printed c.args.input.now) dot_line _ _ _ (omega (arith, c.render-end.ensures.bounded)) c.render-end.ensures.value c.render-end.ensures.out_after c.copy_from_slice.ensures.after)
+    c.write_all.ensures.bytes
